@@ -1,0 +1,7 @@
+pub mod Rounding
+pub mod Firsts
+pub mod Lowests
+pub mod Jobs
+pub mod Networks
+pub mod Places
+pub mod Tables

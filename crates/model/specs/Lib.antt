@@ -1,0 +1,9 @@
+pub mod Refusals
+pub mod Lowest
+pub mod Lengths
+pub mod Stations
+pub mod JobLimits
+pub mod NetworkLimits
+pub mod Data
+pub mod Rows
+pub mod Plans
