@@ -62,5 +62,5 @@ first-pass refuse i (y ∷ ys) pass =
     let at : i ≡ i + 0 = omega arith in
     or-both (refuse i y) (first-refusal refuse (i + 1) ys) (ap (λ n. refuse n y) at ∙ pass 0 y refl)
     (first-pass refuse (i + 1) ys (λ k x e.
-        let next : i + 1 + k ≡ i + suc k = omega arith in
-        ap (λ n. refuse n x) next ∙ pass (suc k) x e))
+    let next : i + 1 + k ≡ i + suc k = omega arith in
+    ap (λ n. refuse n x) next ∙ pass (suc k) x e))

@@ -89,7 +89,7 @@ pub job-limits : (works : List ℕ) (edges : List Edge) → job-refusal works ed
 job-limits works edges none =
     let l = lists works edges none in
     let edge : (i : ℕ) (e : Edge) → nth edges i ≡ Some e → Edge-passes (length works) edges i e = λ i e at.
-        edge-parts (length works) edges i e (ap (λ n. edge-refusal (length works) edges n e) (sym (zero-add i)) ∙ first-passes (edge-refusal (length works) edges) 0 edges (l .edges-pass) i e at) in
+    edge-parts (length works) edges i e (ap (λ n. edge-refusal (length works) edges n e) (sym (zero-add i)) ∙ first-passes (edge-refusal (length works) edges) 0 edges (l .edges-pass) i e at) in
     record {
       some-task = l .some;
       few-tasks = l .few;
@@ -106,11 +106,11 @@ pub job-passes : (works : List ℕ) (edges : List Edge) → Job-limits works edg
 job-passes works edges l =
     let tasks : first-refusal task-refusal 0 works ≡ None = first-pass task-refusal 0 works (λ t w at. task-passes (0 + t) w (l .each-work t w at)) in
     let fresh : (i : ℕ) (e : Edge) → nth edges i ≡ Some e → joins-pair e (take i edges) ≡ false = λ i e at.
-        no-pair e (take i edges) (λ k f at-k.
-            let r = take-nth i edges k f at-k in
-            ⊎-elim (λ (hit : same-pair e f ≡ true). absurd (l .pairs-differ k i f e (r .0) (r .1) at (grind (arith, tells)) (grind (arith, tells)))) (λ miss. miss) (cases-bool (same-pair e f))) in
+    no-pair e (take i edges) (λ k f at-k.
+    let r = take-nth i edges k f at-k in
+    ⊎-elim (λ (hit : same-pair e f ≡ true). absurd (l .pairs-differ k i f e (r .0) (r .1) at (grind (arith, tells)) (grind (arith, tells)))) (λ miss. miss) (cases-bool (same-pair e f))) in
     let edges-pass : first-refusal (edge-refusal (length works) edges) 0 edges ≡ None = first-pass (edge-refusal (length works) edges) 0 edges (λ i e at.
-        ap (λ n. edge-refusal (length works) edges n e) (zero-add i) ∙ edge-passes (length works) edges i e (record { low = l .each-volume i e at .0; high = l .each-volume i e at .1; rising = l .each-rises i e at .0; known = l .each-rises i e at .1; fresh = fresh i e at })) in
+    ap (λ n. edge-refusal (length works) edges n e) (zero-add i) ∙ edge-passes (length works) edges i e (record { low = l .each-volume i e at .0; high = l .each-volume i e at .1; rising = l .each-rises i e at .0; known = l .each-rises i e at .1; fresh = fresh i e at })) in
     let inner : or-else (first-refusal task-refusal 0 works) (first-refusal (edge-refusal (length works) edges) 0 edges) ≡ None = or-both _ _ tasks edges-pass in
     grind (arith, tells, inner, l .some-task, l .few-tasks, l .few-edges)
 

@@ -65,8 +65,8 @@ below-from : (n : ℕ) (bs : List Bool) → count-true (drop n bs) ≡ 0 → (a 
 below-from n bs none a t =
     ⊎-elim (λ h. h)
     (λ past.
-        let e : n + (a - n) ≡ a = omega arith in
-        absurd (omega (arith, true-counts (drop n bs) (a - n) (getD-drop n bs (a - n) false ∙ ap (λ k. getD bs k false) e ∙ t))))
+    let e : n + (a - n) ≡ a = omega arith in
+    absurd (omega (arith, true-counts (drop n bs) (a - n) (getD-drop n bs (a - n) false ∙ ap (λ k. getD bs k false) e ∙ t))))
     (cases-lt a n)
 
 none-from-below : (n : ℕ) (bs : List Bool) → ((a : ℕ) → getD bs a false ≡ true → a < n) → count-true (drop n bs) ≡ 0

@@ -5,5 +5,6 @@ pub mod Stations
 pub mod JobLimits
 pub mod NetworkLimits
 pub mod Data
+pub mod Bookings
 pub mod Rows
 pub mod Plans

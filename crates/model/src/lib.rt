@@ -1,4 +1,5 @@
 //! Jobs, networks and plans: what is drawn and marked, kept within its limits.
+pub mod booking;
 pub mod job;
 pub mod network;
 pub mod plan;
@@ -7,6 +8,7 @@ pub mod speed;
 pub mod stations;
 pub mod tick;
 
+pub use booking::Booking;
 pub use job::Edge;
 pub use job::Job;
 pub use network::Link;

@@ -28,5 +28,9 @@ pub fn ticks(amount: u32, speed: Speed) -> Tick
         return 0;
     }
     let whole = amount / speed.rate;
-    if amount % speed.rate == 0 { whole } else { whole + 1 }
+    if amount % speed.rate == 0 {
+        whole
+    } else {
+        whole + 1
+    }
 }

@@ -20,7 +20,11 @@ impl Job {
     pub fn work(&self, t: usize) -> u32
         ensures { λ r. ⌜ r ≡ getD (job-of (now (self .entry)) .works) t 0 ⌝ }
     {
-        if t < self.works.len() { self.works[t] } else { 0 }
+        if t < self.works.len() {
+            self.works[t]
+        } else {
+            0
+        }
     }
 
     /// How many edges there are.
@@ -35,6 +39,10 @@ impl Job {
     pub fn edge(&self, i: usize) -> Option<Edge>
         ensures { λ r. ⌜ r ≡ nth (job-of (now (self .entry)) .edges) i ⌝ }
     {
-        if i < self.edges.len() { Some(self.edges[i]) } else { None }
+        if i < self.edges.len() {
+            Some(self.edges[i])
+        } else {
+            None
+        }
     }
 }

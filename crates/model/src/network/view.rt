@@ -39,14 +39,22 @@ impl Network {
     pub fn station(&self, s: usize) -> Option<Station>
         ensures { λ r. ⌜ r ≡ nth (net-of (now (self .entry)) .stations) s ⌝ }
     {
-        if s < self.stations.len() { Some(self.stations[s]) } else { None }
+        if s < self.stations.len() {
+            Some(self.stations[s])
+        } else {
+            None
+        }
     }
 
     /// The link of a number.
     pub fn link(&self, l: usize) -> Option<Link>
         ensures { λ r. ⌜ r ≡ nth (net-of (now (self .entry)) .links) l ⌝ }
     {
-        if l < self.links.len() { Some(self.links[l]) } else { None }
+        if l < self.links.len() {
+            Some(self.links[l])
+        } else {
+            None
+        }
     }
 
     /// Whether a station is there and is a machine.

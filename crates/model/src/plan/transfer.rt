@@ -32,7 +32,11 @@ impl TransferRow {
     pub fn start(&self, k: usize) -> Option<Tick>
         ensures { λ r. ⌜ r ≡ nth (starts-of (now (self .entry))) k ⌝ }
     {
-        if k < self.count { Some(self.starts[k]) } else { None }
+        if k < self.count {
+            Some(self.starts[k])
+        } else {
+            None
+        }
     }
 
     /// Adds the start on the next hop; false where the row is full.

@@ -24,14 +24,22 @@ impl Plan {
     pub fn transfer(&self, e: usize) -> Option<TransferRow>
         ensures { λ r. ⌜ mapped starts-of r ≡ nth (plan-of (now (self .entry)) .transfers) e ⌝ }
     {
-        if e < TRANSFER_ROWS { Some(self.transfers[e]) } else { None }
+        if e < TRANSFER_ROWS {
+            Some(self.transfers[e])
+        } else {
+            None
+        }
     }
 
     /// How many starts a transfer has; past the table there are none.
     pub fn start_count(&self, e: usize) -> usize
         ensures { λ r. ⌜ r ≡ length (starts (plan-of (now (self .entry))) e) ⌝ }
     {
-        if e < TRANSFER_ROWS { self.transfers[e].count } else { 0 }
+        if e < TRANSFER_ROWS {
+            self.transfers[e].count
+        } else {
+            0
+        }
     }
 
     /// The start of a transfer on its hop `k`.
@@ -42,7 +50,11 @@ impl Plan {
             return None;
         }
         let row = self.transfers[e];
-        if k < row.count { Some(row.starts[k]) } else { None }
+        if k < row.count {
+            Some(row.starts[k])
+        } else {
+            None
+        }
     }
 
     /// How many steps there are.
@@ -57,6 +69,10 @@ impl Plan {
     pub fn step(&self, k: usize) -> Option<usize>
         ensures { λ r. ⌜ r ≡ nth (plan-of (now (self .entry)) .steps) k ⌝ }
     {
-        if k < self.step_count { Some(self.steps[k]) } else { None }
+        if k < self.step_count {
+            Some(self.steps[k])
+        } else {
+            None
+        }
     }
 }

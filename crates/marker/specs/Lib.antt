@@ -1,0 +1,4 @@
+pub mod Letters
+pub mod Faults
+pub mod Verdicts
+pub mod Table

@@ -1,0 +1,5 @@
+pub mod Along
+pub mod Walked
+pub mod Kept
+pub mod Rows
+pub mod Transfers
