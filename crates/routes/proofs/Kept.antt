@@ -1,14 +1,14 @@
 -- A table is refused nothing exactly if every pair of stations has a row that keeps the laws; a refusal names the first other pair.
 use mathlib.Core.Path.{_≡_, refl, sym, ap, subst, _∙_}
-use mathlib.Core.Bool.{Bool, true, false, cond, not, _&&_}
+use mathlib.Core.Bool.{true, false}
 use mathlib.Core.List.{List, [], _∷_}
 use mathlib.Core.Logic.{_≢_, ⊎-elim}
 use Prim.Native.Nat.{ℕ, _+_, _*_, _<_, _≤_}
 use native.Mathlib.Omega.{arith}
-use lib.Dec.{eqb, ltb}
+use lib.Dec.{eqb}
 use lib.ListN.{length}
 use Rattle.std.proofs.shelf.Lists.{nil-from-length}
-use Rattle.std.proofs.shelf.Tests.{true≢false, cases-bool, cases-lt, cond-true, cond-false, and-from, and-left, and-right, not-true, not-from-false, eqb-true, eqb-false, eq-eqb, ne-eqb, lt-ltb, le-ltb}
+use Rattle.std.proofs.shelf.Tests.{true≢false, cases-bool, cond-true, cond-false, and-from, and-left, and-right, not-true, not-from-false, eqb-true, eqb-false, eq-eqb, ne-eqb, lt-ltb, le-ltb}
 use Rattle.std.specs.Options.{isSome}
 use Rattle.std.specs.declared.option.Option.{Option}
 use Rattle.std.specs.declared.option.Option.the-variants.{Some, None}
@@ -18,7 +18,6 @@ use Rattle.model.specs.declared.refusal.Refusal.the-variants.{BadRoute}
 use Rattle.model.proofs.Firsts.{some≢none, none-from}
 use Rattle.model.proofs.Lowests.{lowest-none, lowest-some, lowest-all}
 use Rattle.routes.specs.Laws.{Sound-route, Pair-laws, Route-laws}
-use Rattle.routes.specs.Walks.{is-route}
 use Rattle.routes.specs.Tables.{row-at, keeps-law, is-kept, row-refusal, origin-refusal, written-refusal, route-in, written-route}
 use Rattle.routes.specs.Lawful.{Lawful-row, Lawful-table, First-broken}
 use Rattle.routes.specs.declared.hop.Hop.{Hop}

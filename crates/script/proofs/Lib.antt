@@ -1,0 +1,9 @@
+pub mod Runs
+pub mod Parting
+pub mod Numbers
+pub mod Spelled
+pub mod Lining
+pub mod Hops
+pub mod Spaced
+pub mod ReadsBack
+pub mod Unlined

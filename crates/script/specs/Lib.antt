@@ -1,0 +1,10 @@
+pub mod Words
+pub mod Lines
+pub mod Number
+pub mod Spelling
+pub mod Tell
+pub mod Data
+pub mod Form
+pub mod Statement
+pub mod Read
+pub mod Written
