@@ -16,12 +16,7 @@ pub fn print_refusal(rt: &LibcRuntime, maker: &str, refusal: Refusal) -> io::Res
 }
 
 /// What was made.
-pub fn print_made(
-    rt: &LibcRuntime,
-    job: &Job,
-    network: &Network,
-    routes: &str,
-) -> io::Result<()> {
+pub fn print_made(rt: &LibcRuntime, job: &Job, network: &Network, routes: &str) -> io::Result<()> {
     let tasks = job.task_count();
     let edges = job.edge_count();
     let stations = network.station_count();

@@ -1,0 +1,3 @@
+//! Tests of the marker on plans that were worked through by hand.
+#[cfg(test)]
+mod worked;
