@@ -7,19 +7,27 @@ use model::Link;
 use model::Network;
 use model::Placement;
 use model::Plan;
+use model::Refusal;
 use model::Speed;
 use model::Station;
 use model::StationSet;
 use model::TransferRow;
 use model::plan::measures::placed_count;
 use model::plan::measures::plan_length;
-use model::refusal::RefusalDebug;
 use routes::Hop;
 use routes::Routes;
 use routes::WrittenRoutes;
 use routes::WrittenRoutesRoutes;
 use std::alloc::Global;
 use std::test::*;
+
+/// What a maker made; a refusal fails the test.
+fn made<T>(result: Result<T, Refusal>) -> Result<T, Fail> {
+    match result {
+        Ok(value) => Ok(value),
+        Err(refusal) => Err(Fail::new(refusal.number())),
+    }
+}
 
 fn machine(rate: u32) -> Station {
     Station::Machine(Speed { rate })
@@ -39,7 +47,7 @@ fn link(a: usize, b: usize, rate: u32) -> Link {
 fn line(heap: Global) -> Result<WrittenRoutes, Fail> {
     let stations = vec![in heap; machine(1), machine(2), machine(1)]?;
     let links = vec![in heap; link(0, 1, 1), link(1, 2, 2)]?;
-    let network = Network::new(stations, links)?;
+    let network = made(Network::new(stations, links))?;
     let first = Hop {
         link: 0,
         station: 1,
@@ -62,7 +70,7 @@ fn line(heap: Global) -> Result<WrittenRoutes, Fail> {
             }
         }
     }
-    Ok(WrittenRoutes::new(network, rows)?)
+    made(WrittenRoutes::new(network, rows))
 }
 
 /// Works 4, 6 and 3; edge 0 from task 0 to 1 of volume 4, edge 1 from task 0 to 2 of volume 6.
@@ -78,7 +86,7 @@ fn three_tasks(heap: Global) -> Result<Job, Fail> {
         to: 2,
         volume: 6,
     };
-    Ok(Job::new(works, vec![in heap; to_one, to_two]?)?)
+    made(Job::new(works, vec![in heap; to_one, to_two]?))
 }
 
 /// Each task on its own machine, from 0, 8 and 14; edge 0 from 4, edge 1 from 8 and from `second`.
@@ -168,7 +176,7 @@ fn three_machines(rt: LibcRuntime) -> Result<(), Fail> {
 fn one_machine(rt: LibcRuntime) -> Result<(), Fail> {
     let heap = rt.alloc();
     let routes = line(heap)?;
-    let job = Job::new(vec![in heap; 5, 2]?, Vec::new(heap))?;
+    let job = made(Job::new(vec![in heap; 5, 2]?, Vec::new(heap)))?;
     check(is_lawful(mark(&routes, &job, &beside(5))))?;
     check(is_broken(mark(&routes, &job, &beside(4)), 'H', 0, 1))
 }

@@ -3,7 +3,7 @@ ghost use mathlib.Core.Path.{_≡_};
 ghost use Rattle.model.specs.Refusals.{refusal-number, refusal-detail};
 
 /// Each cause has a number, and a detail that says where it was found.
-#[derive(Clone, Copy, Debug, PartialEq, Eq)]
+#[derive(Clone, Copy)]
 pub enum Refusal {
     /// A list is shorter or longer than its limits: its length.
     ListLength(usize),

@@ -6,7 +6,6 @@ use model::Refusal;
 use model::Speed;
 use model::Station;
 use model::StationSet;
-use model::refusal::RefusalDebug;
 use routes::Hop;
 use routes::Routes;
 use routes::WrittenRoutes;
@@ -29,6 +28,14 @@ const STAY: Row = Row::Hops {
         station: 0,
     }; 3],
 };
+
+/// What a maker made; a refusal fails the test.
+fn made<T>(result: Result<T, Refusal>) -> Result<T, Fail> {
+    match result {
+        Ok(value) => Ok(value),
+        Err(refusal) => Err(Fail::new(refusal.number())),
+    }
+}
 
 fn hop(link: usize, station: usize) -> Hop {
     Hop { link, station }
@@ -105,7 +112,7 @@ fn network(heap: Global, count: usize) -> Result<Network, Fail> {
         links.push(link(0, 1))?;
     }
     links.push(link(1, 2))?;
-    Ok(Network::new(stations, links)?)
+    made(Network::new(stations, links))
 }
 
 /// The number and the detail of a refusal; 0 and 0 where there is none.
@@ -122,7 +129,7 @@ fn answer(heap: Global, rows: &[Row]) -> Result<(u32, usize), Fail> {
 }
 
 fn line_routes(heap: Global) -> Result<WrittenRoutes, Fail> {
-    Ok(WrittenRoutes::new(network(heap, 1)?, table(heap, &line_rows())?)?)
+    made(WrittenRoutes::new(network(heap, 1)?, table(heap, &line_rows())?))
 }
 
 #[test]

@@ -1,4 +1,7 @@
 //! A candidate's answer: its rows, and the marker's verdict on it.
+ghost use mathlib.Core.Path.{_≡_};
+ghost use lib.ListN.{take};
+ghost use Rattle.model.specs.Plans.{starts-of};
 use crate::print::print_verdict;
 use crate::reader::Reader;
 use crate::stop::Stop;
@@ -13,8 +16,10 @@ use routes::Routes;
 use script::Line;
 use std::alloc::Global;
 
-/// The transfer row with these starts.
-fn transfer_of(starts: &[u32]) -> TransferRow {
+/// The transfer row with these starts, or the first 15 of them.
+fn transfer_of(starts: &[u32]) -> TransferRow
+    ensures { λ r. ⌜ starts-of r ≡ take 15 (now (starts .entry)) ⌝ }
+{
     let mut row = TransferRow::new();
     for start in starts {
         let _ = row.push(*start);

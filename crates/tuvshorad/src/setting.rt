@@ -1,4 +1,6 @@
 //! What the first lines of a script gather: the lists of which the job, the network and the routes are made.
+ghost use mathlib.Core.Path.{_≡_};
+ghost use Rattle.tuvshorad.specs.Gathering.{link-from};
 use crate::stop::Stop;
 use crate::stop::StopFromAlloc;
 use crate::stop::StopFromRefused;
@@ -32,7 +34,9 @@ pub struct Setting {
 }
 
 /// The link that joins these stations.
-fn link_of(speed: u32, stations: &[u32]) -> Link {
+fn link_of(speed: u32, stations: &[u32]) -> Link
+    ensures { λ r. ⌜ r ≡ link-from speed (now (stations .entry)) ⌝ }
+{
     let mut set = StationSet::new();
     for station in stations {
         set.insert(*station as usize);
