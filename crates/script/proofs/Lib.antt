@@ -10,3 +10,4 @@ pub mod Unlined
 pub mod Answering
 pub mod Counted
 pub mod Routing
+mod EarlierForms

@@ -1,5 +1,5 @@
 -- The statements of a script: the lines that have a word, each with its number.
-use Rattle.std.specs.Prelude.{◌≡◌, ℕ, ◌+◌, IsTrue, List, [], ◌∷◌, Some, None, Ok, Err, Option, Result}
+use Rattle.std.specs.Prelude.{◌≡◌, ℕ, ◌+◌, ◌<◌, ◌≤◌, IsTrue, List, [], ◌∷◌, Some, None, Ok, Err, Option, Result}
 use Rattle.script.specs.Data.{LineData, line_data, takes_memory}
 use Rattle.script.specs.Lines.{lines_left}
 use Rattle.script.specs.Read.{Answer, silent, says, not_understood, read}
@@ -43,3 +43,9 @@ GivesFirst (Ok None) n before after = (before ≡ []) × (after ≡ [])
 GivesFirst (Ok (Some l)) n before after = before ≡ record { number = n; said = Some (line_data l) } ∷ after
 GivesFirst (Err NotUnderstood) n before after = before ≡ record { number = n; said = None } ∷ after
 GivesFirst (Err Memory) n before after = (d : LineData) × (before ≡ record { number = n; said = Some d } ∷ after) × IsTrue (takes_memory d)
+
+-- where a line came, fewer are to come than there were; else no more
+abbrev pub Shrinks : {A E : Type 0} → Result (Option A) E → ℕ → ℕ → Type 0
+Shrinks (Ok (Some x)) before after = after < before
+Shrinks (Ok None) before after = after ≤ before
+Shrinks (Err e) before after = after ≤ before

@@ -1,0 +1,195 @@
+-- The statements of a line as an earlier landing defined them, and that they are those of today.
+use Rattle.std.proofs.Common.{◌≡◌, ℕ, suc, ◌%◌, cond, ◌&&◌, List, [], ◌∷◌, length, drop, Some, None, codes, Option, ◌==◌, nat_le, slice_index, refl, arith}
+use Rattle.std.specs.Option.{option_map}
+use Rattle.std.proofs.lemmas.Bool.Decides.{nat_tests}
+use Rattle.script.specs.Data.{LineData, task, edge, machine, switch, link, routes, route, bookings, answer, row, starts, mark}
+use Rattle.script.specs.Form.{form_named}
+use Rattle.script.specs.Number.{numbers_of}
+use Rattle.script.specs.Statement.{task_of, edge_of, machine_of, alone_of, link_of, hops_of, route_of, bookings_of, row_of, starts_of, form_line, kind_named, routes_of, numbered_of, line_of}
+use Rattle.script.specs.Words.{same_word}
+use Rattle.script.specs.declared.form.Form.{Form}
+use Rattle.script.specs.declared.form.Form.TheVariants.{Task, Edge, Machine, Switch, Link, Route, Bookings, Answer, Row, Starts, Mark}
+use Rattle.script.specs.declared.line.HopWords.{HopWords}
+use Rattle.script.specs.declared.line.RouteKind.{RouteKind}
+use Rattle.script.specs.declared.line.RouteKind.TheVariants.{Hops, Slowness, Written}
+
+abbrev pub earlier_task_of : List ℕ → Option LineData
+earlier_task_of ns = cond (length ns == 1) (Some (task (slice_index ns 0))) None
+
+abbrev pub earlier_edge_of : List ℕ → Option LineData
+earlier_edge_of ns = cond (length ns == 3) (Some (edge (slice_index ns 0) (slice_index ns 1) (slice_index ns 2))) None
+
+abbrev pub earlier_machine_of : List ℕ → Option LineData
+earlier_machine_of ns = cond (length ns == 1) (Some (machine (slice_index ns 0))) None
+
+-- a line of one word
+abbrev pub earlier_alone_of : LineData → List ℕ → Option LineData
+earlier_alone_of d ns = cond (length ns == 0) (Some d) None
+
+abbrev pub earlier_link_of : List ℕ → Option LineData
+earlier_link_of ns = cond (nat_le 1 (length ns)) (Some (link (slice_index ns 0) (drop 1 ns))) None
+
+-- each two numbers are a link and a station
+abbrev pub earlier_hops_of : List ℕ → List HopWords
+earlier_hops_of [] = []
+earlier_hops_of (l ∷ []) = []
+earlier_hops_of (l ∷ s ∷ ns) = record { link = l; station = s } ∷ earlier_hops_of ns
+
+-- the numbers after the first two come in pairs
+abbrev pub earlier_route_of : List ℕ → Option LineData
+earlier_route_of ns =
+    cond (nat_le 2 (length ns) && length (drop 2 ns) % 2 == 0) (Some (route (slice_index ns 0) (slice_index ns 1) (earlier_hops_of (drop 2 ns)))) None
+
+abbrev pub earlier_bookings_of : List ℕ → Option LineData
+earlier_bookings_of ns = cond (length ns == 1 && nat_le (slice_index ns 0) 4096) (Some (bookings (slice_index ns 0))) None
+
+-- a task up to 127, a station up to 15
+abbrev pub earlier_row_of : List ℕ → Option LineData
+earlier_row_of ns =
+    cond (length ns == 3 && (nat_le (slice_index ns 0) 127 && nat_le (slice_index ns 1) 15)) (Some (row (slice_index ns 0) (slice_index ns 1) (slice_index ns 2))) None
+
+-- an edge up to 223, 1 to 15 starts
+abbrev pub earlier_starts_of : List ℕ → Option LineData
+earlier_starts_of ns =
+    cond (nat_le 2 (length ns) && (nat_le (length ns) 16 && nat_le (slice_index ns 0) 223)) (Some (starts (slice_index ns 0) (drop 1 ns))) None
+
+-- what a line of a form says with these numbers
+abbrev pub earlier_form_line : Form → List ℕ → Option LineData
+earlier_form_line Task ns = earlier_task_of ns
+earlier_form_line Edge ns = earlier_edge_of ns
+earlier_form_line Machine ns = earlier_machine_of ns
+earlier_form_line Switch ns = earlier_alone_of switch ns
+earlier_form_line Link ns = earlier_link_of ns
+earlier_form_line Route ns = earlier_route_of ns
+earlier_form_line Bookings ns = earlier_bookings_of ns
+earlier_form_line Answer ns = earlier_alone_of answer ns
+earlier_form_line Row ns = earlier_row_of ns
+earlier_form_line Starts ns = earlier_starts_of ns
+earlier_form_line Mark ns = earlier_alone_of mark ns
+
+abbrev pub earlier_form_named : List ℕ → Option Form
+earlier_form_named w =
+    cond (same_word w (codes "task")) (Some Task)
+    (cond (same_word w (codes "edge")) (Some Edge)
+    (cond (same_word w (codes "machine")) (Some Machine)
+    (cond (same_word w (codes "switch")) (Some Switch)
+    (cond (same_word w (codes "link")) (Some Link)
+    (cond (same_word w (codes "route")) (Some Route)
+    (cond (same_word w (codes "bookings")) (Some Bookings)
+    (cond (same_word w (codes "answer")) (Some Answer)
+    (cond (same_word w (codes "row")) (Some Row)
+    (cond (same_word w (codes "starts")) (Some Starts)
+    (cond (same_word w (codes "mark")) (Some Mark) None))))))))))
+
+abbrev pub earlier_kind_named : List ℕ → Option RouteKind
+earlier_kind_named w =
+    cond (same_word w (codes "hops")) (Some Hops)
+    (cond (same_word w (codes "slowness")) (Some Slowness)
+    (cond (same_word w (codes "written")) (Some Written) None))
+
+-- one word that names a kind of routes
+abbrev pub earlier_routes_of : List (List ℕ) → Option LineData
+earlier_routes_of [] = None
+earlier_routes_of (w ∷ []) = option_map routes (earlier_kind_named w)
+earlier_routes_of (w ∷ v ∷ ws) = None
+
+abbrev pub earlier_numbered_of : Option Form → Option (List ℕ) → Option LineData
+earlier_numbered_of None ns = None
+earlier_numbered_of (Some f) None = None
+earlier_numbered_of (Some f) (Some ns) = earlier_form_line f ns
+
+-- what the word w and the words ws after it say, if anything
+abbrev pub earlier_line_of : List ℕ → List (List ℕ) → Option LineData
+earlier_line_of w ws = cond (same_word w (codes "routes")) (earlier_routes_of ws) (earlier_numbered_of (earlier_form_named w) (numbers_of ws))
+
+pub same_task : (ns : List ℕ) → task_of ns ≡ earlier_task_of ns
+same_task [] = refl
+same_task (a ∷ []) = refl
+same_task (a ∷ b ∷ ns) = grind (arith, nat_tests)
+
+pub same_edge : (ns : List ℕ) → edge_of ns ≡ earlier_edge_of ns
+same_edge [] = refl
+same_edge (a ∷ []) = refl
+same_edge (a ∷ b ∷ []) = refl
+same_edge (a ∷ b ∷ c ∷ []) = refl
+same_edge (a ∷ b ∷ c ∷ d ∷ ns) = grind (arith, nat_tests)
+
+pub same_machine : (ns : List ℕ) → machine_of ns ≡ earlier_machine_of ns
+same_machine [] = refl
+same_machine (a ∷ []) = refl
+same_machine (a ∷ b ∷ ns) = grind (arith, nat_tests)
+
+pub same_alone : (d : LineData) (ns : List ℕ) → alone_of d ns ≡ earlier_alone_of d ns
+same_alone d [] = refl
+same_alone d (a ∷ ns) = grind (arith, nat_tests)
+
+pub same_link : (ns : List ℕ) → link_of ns ≡ earlier_link_of ns
+same_link [] = refl
+same_link (a ∷ ns) = grind (arith, nat_tests)
+
+hops_more : (h : HopWords) (o : Option (List HopWords)) (hs : List HopWords) (n : ℕ) → o ≡ cond (n % 2 == 0) (Some hs) None → option_map (λ rest. h ∷ rest) o ≡ cond (suc (suc n) % 2 == 0) (Some (h ∷ hs)) None
+hops_more h None hs n is = grind (arith, nat_tests)
+hops_more h (Some rest) hs n is = grind (arith, nat_tests)
+
+-- the numbers are hops if they come in pairs
+pub same_hops : (ns : List ℕ) → hops_of ns ≡ cond (length ns % 2 == 0) (Some (earlier_hops_of ns)) None
+same_hops [] = refl
+same_hops (l ∷ []) = refl
+same_hops (l ∷ s ∷ ns) = hops_more (record { link = l; station = s }) (hops_of ns) (earlier_hops_of ns) (length ns) (same_hops ns)
+
+mapped_route : (from to : ℕ) (o : Option (List HopWords)) (hs : List HopWords) (n : ℕ) → o ≡ cond (n % 2 == 0) (Some hs) None → option_map (route from to) o ≡ cond (nat_le 2 (suc (suc n)) && n % 2 == 0) (Some (route from to hs)) None
+mapped_route from to None hs n is = grind (arith, nat_tests)
+mapped_route from to (Some rest) hs n is = grind (arith, nat_tests)
+
+pub same_route : (ns : List ℕ) → route_of ns ≡ earlier_route_of ns
+same_route [] = refl
+same_route (a ∷ []) = refl
+same_route (a ∷ b ∷ ns) = mapped_route a b (hops_of ns) (earlier_hops_of ns) (length ns) (same_hops ns)
+
+pub same_bookings : (ns : List ℕ) → bookings_of ns ≡ earlier_bookings_of ns
+same_bookings [] = refl
+same_bookings (a ∷ []) = refl
+same_bookings (a ∷ b ∷ ns) = grind (arith, nat_tests)
+
+pub same_row : (ns : List ℕ) → row_of ns ≡ earlier_row_of ns
+same_row [] = refl
+same_row (a ∷ []) = refl
+same_row (a ∷ b ∷ []) = refl
+same_row (a ∷ b ∷ c ∷ []) = refl
+same_row (a ∷ b ∷ c ∷ d ∷ ns) = grind (arith, nat_tests)
+
+pub same_starts : (ns : List ℕ) → starts_of ns ≡ earlier_starts_of ns
+same_starts [] = refl
+same_starts (e ∷ ss) = grind (arith, nat_tests)
+
+pub same_form_line : (f : Form) (ns : List ℕ) → form_line f ns ≡ earlier_form_line f ns
+same_form_line Task ns = same_task ns
+same_form_line Edge ns = same_edge ns
+same_form_line Machine ns = same_machine ns
+same_form_line Switch ns = same_alone switch ns
+same_form_line Link ns = same_link ns
+same_form_line Route ns = same_route ns
+same_form_line Bookings ns = same_bookings ns
+same_form_line Answer ns = same_alone answer ns
+same_form_line Row ns = same_row ns
+same_form_line Starts ns = same_starts ns
+same_form_line Mark ns = same_alone mark ns
+
+pub same_form_named : (w : List ℕ) → form_named w ≡ earlier_form_named w
+same_form_named w = refl
+
+pub same_kind_named : (w : List ℕ) → kind_named w ≡ earlier_kind_named w
+same_kind_named w = refl
+
+pub same_routes : (ws : List (List ℕ)) → routes_of ws ≡ earlier_routes_of ws
+same_routes [] = refl
+same_routes (w ∷ []) = refl
+same_routes (w ∷ v ∷ ws) = refl
+
+pub same_numbered : (f : Option Form) (ns : Option (List ℕ)) → numbered_of f ns ≡ earlier_numbered_of f ns
+same_numbered None ns = refl
+same_numbered (Some f) None = refl
+same_numbered (Some f) (Some ns) = same_form_line f ns
+
+pub same_line : (w : List ℕ) (ws : List (List ℕ)) → line_of w ws ≡ earlier_line_of w ws
+same_line w ws = rw (same_routes ws, same_numbered (form_named w) (numbers_of ws)) refl
