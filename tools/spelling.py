@@ -9,7 +9,6 @@ import os
 import re
 import sys
 
-LIBRARIES = ("Rattle.std", "mathlib", "Prim", "lib", "antt")
 WORD = r"(?<![\w'\-≢≡≤<>])[A-Za-z][A-Za-z0-9_']*(?:-[A-Za-z0-9_']+)+(?![\w'\-≢≡≤])"
 DASHED = re.compile(WORD)
 # Not behind a point: a field of a record that the check makes is only ever read, and so is none of the repository's names.
