@@ -1,5 +1,8 @@
--- The statements of a line as an earlier landing defined them, and that they are those of today.
-use Rattle.std.proofs.Common.{◌≡◌, ℕ, suc, ◌%◌, cond, ◌&&◌, List, [], ◌∷◌, length, drop, Some, None, codes, Option, ◌==◌, nat_le, slice_index, refl, arith}
+-- The statements of a line as an earlier landing defined them, and that they are those of today; so for how a text splits,
+-- and for which lines can be written.
+use Rattle.std.proofs.Common.{All, ◌≡◌, ◌≢◌, ℕ, suc, ◌%◌, ◌≤◌, cond, ◌&&◌, ◌⊎◌, inl, inr, List, [], ◌∷◌, ◌++◌, length, drop, Some, None, codes, Option, ◌==◌, nat_le, slice_index, refl, arith}
+use Rattle.std.specs.List.{AllByRecursion}
+use Rattle.std.proofs.lemmas.List.Elements.{All-from_recursion, recursion_from_All}
 use Rattle.std.specs.Option.{option_map}
 use Rattle.std.proofs.lemmas.Bool.Decides.{nat_tests}
 use Rattle.script.specs.Data.{LineData, task, edge, machine, switch, link, routes, route, bookings, answer, row, starts, mark}
@@ -7,6 +10,8 @@ use Rattle.script.specs.Form.{form_named}
 use Rattle.script.specs.Number.{numbers_of}
 use Rattle.script.specs.Statement.{task_of, edge_of, machine_of, alone_of, link_of, hops_of, route_of, bookings_of, row_of, starts_of, form_line, kind_named, routes_of, numbered_of, line_of}
 use Rattle.script.specs.Words.{same_word}
+use Rattle.script.specs.Lines.{Splits, unlines}
+use Rattle.script.specs.Written.{Fits32, Within, hop_numbers}
 use Rattle.script.specs.declared.form.Form.{Form}
 use Rattle.script.specs.declared.form.Form.TheVariants.{Task, Edge, Machine, Switch, Link, Route, Bookings, Answer, Row, Starts, Mark}
 use Rattle.script.specs.declared.line.HopWords.{HopWords}
@@ -193,3 +198,45 @@ same_numbered (Some f) (Some ns) = same_form_line f ns
 
 pub same_line : (w : List ℕ) (ws : List (List ℕ)) → line_of w ws ≡ earlier_line_of w ws
 same_line w ws = rw (same_routes ws, same_numbered (form_named w) (numbers_of ws)) refl
+
+-- how a text splits, and which lines can be written, with the recursive form of `All`
+pub record EarlierSplits (bs : List ℕ) (ls : List (List ℕ)) : Type 0 where
+  pub whole : (unlines ls ≡ bs) ⊎ (unlines ls ≡ bs ++ 10 ∷ [])
+  pub single : AllByRecursion (AllByRecursion (λ b. b ≢ 10)) ls
+
+abbrev pub EarlierWithin : LineData → Type 0
+EarlierWithin (task work) = Fits32 work
+EarlierWithin (edge from to volume) = Fits32 from × Fits32 to × Fits32 volume
+EarlierWithin (machine speed) = Fits32 speed
+EarlierWithin switch = Unit {0}
+EarlierWithin (link speed stations) = Fits32 speed × AllByRecursion Fits32 stations
+EarlierWithin (routes kind) = Unit {0}
+EarlierWithin (route from to hops) = Fits32 from × Fits32 to × AllByRecursion Fits32 (hop_numbers hops)
+EarlierWithin (bookings most) = most ≤ 4096
+EarlierWithin answer = Unit {0}
+EarlierWithin (row t station start) = (t ≤ 127) × (station ≤ 15) × Fits32 start
+EarlierWithin (starts e ss) = (e ≤ 223) × (1 ≤ length ss) × (length ss ≤ 15) × AllByRecursion Fits32 ss
+EarlierWithin mark = Unit {0}
+
+each_recursive : {X : Type 0} (P : X → Type 0) (xs : List (List X)) → All (All P) xs → AllByRecursion (AllByRecursion P) xs
+each_recursive P [] a = tt
+each_recursive P (x ∷ xs) a = (recursion_from_All P x (a 0 x (omega arith)), each_recursive P xs (λ k d h. a (suc k) d (omega arith)))
+
+-- today's split says all that the earlier one said
+pub splits_as_before : (bs : List ℕ) (ls : List (List ℕ)) → Splits bs ls → EarlierSplits bs ls
+splits_as_before bs ls s = record { whole = elim s.whole [ inl e ↦ inl e | inr p ↦ inr p.0 ]; single = each_recursive (λ b. b ≢ 10) ls s.single }
+
+-- the lines that could be written can be
+pub within_as_before : (d : LineData) → EarlierWithin d → Within d
+within_as_before (task work) w = w
+within_as_before (edge from to volume) w = w
+within_as_before (machine speed) w = w
+within_as_before switch w = w
+within_as_before (link speed stations) w = (w.0, All-from_recursion Fits32 stations w.1)
+within_as_before (routes kind) w = w
+within_as_before (route from to hops) w = (w.0, w.1, All-from_recursion Fits32 (hop_numbers hops) w.2)
+within_as_before (bookings most) w = w
+within_as_before answer w = w
+within_as_before (row t station start) w = w
+within_as_before (starts e ss) w = (w.0, w.1, w.2, All-from_recursion Fits32 ss w.3)
+within_as_before mark w = w

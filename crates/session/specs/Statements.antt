@@ -1,5 +1,6 @@
 -- The statements of a script: the lines that have a word, each with its number.
-use Rattle.std.specs.Prelude.{◌≡◌, ℕ, ◌+◌, ◌<◌, ◌≤◌, IsTrue, List, [], ◌∷◌, Some, None, Ok, Err, Option, Result}
+use Rattle.std.specs.Prelude.{◌≡◌, ℕ, ◌+◌, ◌<◌, ◌≤◌, IsTrue, List, [], ◌∷◌, length, Some, None, Ok, Err, Option, Result}
+use Rattle.std.specs.Option.{option_map_or}
 use Rattle.script.specs.Data.{LineData, line_data, takes_memory}
 use Rattle.script.specs.Lines.{lines_left}
 use Rattle.script.specs.Read.{Answer, silent, says, not_understood, read}
@@ -43,6 +44,10 @@ GivesFirst (Ok None) n before after = (before ≡ []) × (after ≡ [])
 GivesFirst (Ok (Some l)) n before after = before ≡ record { number = n; said = Some (line_data l) } ∷ after
 GivesFirst (Err NotUnderstood) n before after = before ≡ record { number = n; said = None } ∷ after
 GivesFirst (Err Memory) n before after = (d : LineData) × (before ≡ record { number = n; said = Some d } ∷ after) × IsTrue (takes_memory d)
+
+-- how many lines come when a reader is asked, with one that was handed back
+abbrev pub lines_to_come : Reader → ℕ
+lines_to_come r = length (lines_left r.lines) + option_map_or (λ line. 1) r.handed_back 0
 
 -- where a line came, fewer are to come than there were; else no more
 abbrev pub Shrinks : {A E : Type 0} → Result (Option A) E → ℕ → ℕ → Type 0

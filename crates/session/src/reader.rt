@@ -17,7 +17,7 @@ pub struct Reader<'a> {
 
 impl<'a> Reader<'a> {
     ghost use Rattle.script.specs.Lines.{lines_of};
-    ghost use Rattle.session.specs.Statements.{statements, put_back, unread, to_come, GivesFirst, Shrinks};
+    ghost use Rattle.session.specs.Statements.{statements, put_back, unread, to_come, lines_to_come, GivesFirst, Shrinks};
 
     /// All lines of a script.
     pub fn new(text: &'a [u8]) -> Reader<'a>
@@ -41,7 +41,7 @@ impl<'a> Reader<'a> {
     pub fn next(&mut self, alloc: Global) -> Result<Option<Line>, LineError>
         ensures first { GivesFirst result self.new.number (to_come self.old) (unread self.new) }
         ensures taken { self.new.handed_back ≡ None }
-        ensures fewer { self.old.handed_back ≡ None → Shrinks result (length (lines_left self.old.lines)) (length (lines_left self.new.lines)) }
+        ensures fewer { Shrinks result (lines_to_come self.old) (lines_to_come self.new) }
     {
         if let Some(line) = self.handed_back.take() {
             return Ok(Some(line));
