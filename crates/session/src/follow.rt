@@ -73,7 +73,7 @@ fn follow_network<W: Write>(
             follow_answers(alloc, reader, job, kind, &routes, out)
         }
         RouteKind::Written => {
-            let rows = table_of(alloc, &network, written)?;
+            let rows = table_of(alloc, network.station_count(), written)?;
             match WrittenRoutes::new(network, rows) {
                 Ok(routes) => follow_answers(alloc, reader, job, kind, &routes, out),
                 Err(refusal) => Ok(print_refusal(out, "routes", refusal)?),

@@ -1,13 +1,11 @@
 //! The table of written routes.
-ghost use Rattle.std.specs.Prelude.{◌≡◌, ℕ, ◌+◌, ◌*◌, ◌<◌, ◌≤◌, ◌++◌, map, None, slice_set, slice_index_or, vec_items, IfOk, OnOk};
+ghost use Rattle.std.specs.Prelude.{◌≡◌, ℕ, ◌+◌, ◌*◌, ◌<◌, ◌≤◌, ◌&&◌, ◌++◌, min, nat_lt, if◌then◌else◌, map, None, slice_set, slice_index_or, vec_items, IfOk, OnOk};
 ghost use Rattle.std.specs.Option.{option_map};
 ghost use Rattle.std.specs.List.{range_with_len};
-ghost use Rattle.model.specs.Data.{net_of, station_count};
 ghost use Rattle.routes.specs.Tables.{rows_of};
 ghost use Rattle.session.specs.RouteRows.{SameFrom, row_between, table_rows};
 
 use crate::setting::STATIONS;
-use model::Network;
 use routes::Hop;
 use std::alloc::{AllocError, Global};
 
@@ -24,17 +22,19 @@ fn take_hops(written: &mut Vec<Option<Vec<Hop>>>, place: usize) -> Option<Vec<Ho
     }
 }
 
-/// The row of one pair, its hops moved out of what is written.
+/// The row of one pair, its hops moved out of what is written; none from 16 on, which is no station.
 fn row_between(
     alloc: Global,
     written: &mut Vec<Option<Vec<Hop>>>,
     from: usize,
     to: usize,
 ) -> Option<Vec<Hop>>
-    requires { (from < 16) × (to < 16) }
-    ensures row { option_map vec_items result ≡ row_between (rows_of written.old.items) from to }
-    ensures rest { rows_of written.new.items ≡ slice_set (rows_of written.old.items) (16 * from + to) None }
+    ensures row { option_map vec_items result ≡ (if nat_lt from 16 && nat_lt to 16 then row_between (rows_of written.old.items) from to else None) }
+    ensures rest { rows_of written.new.items ≡ (if nat_lt from 16 && nat_lt to 16 then slice_set (rows_of written.old.items) (16 * from + to) None else rows_of written.old.items) }
 {
+    if from >= STATIONS || to >= STATIONS {
+        return None;
+    }
     match take_hops(written, STATIONS * from + to) {
         Some(hops) => Some(hops),
         None => {
@@ -65,15 +65,15 @@ fn push_rows(
     Ok(())
 }
 
-/// The rows of written routes over `network`, by rising origin, then goal.
+/// The rows of written routes over `count` stations, of which there are at most 16, by rising origin, then goal.
 pub fn table_of(
     alloc: Global,
-    network: &Network,
+    count: usize,
     mut written: Vec<Option<Vec<Hop>>>,
 ) -> Result<Vec<Option<Vec<Hop>>>, AllocError>
-    ensures { IfOk result (λ rows. rows_of rows.items ≡ table_rows (station_count (net_of network.now)) (rows_of written.items)) }
+    ensures { IfOk result (λ rows. rows_of rows.items ≡ table_rows (min count 16) (rows_of written.items)) }
 {
-    let count = network.station_count();
+    let count = count.min(STATIONS);
     let mut rows = Vec::new(alloc);
     for from in 0..count {
         push_rows(alloc, &mut written, count, from, &mut rows)?;
