@@ -8,6 +8,6 @@ loop-from-preserved c =
     let xs = rows_of c.args.written.items in
     let ys = rows_of c.loop-from.written.items in
     record {
-      added = one_origin_more (rows_of c.loop-from.rows.items) (rows_of c.push_rows.new.rows.items) xs ys c.loop-from.from c.min-count.result c.loop-from.invariant.added c.loop-from.invariant.rest c.in_ok-push_rows.ensures.rows;
-      rest = same_later xs ys (rows_of c.push_rows.new.written.items) (16 * c.loop-from.from) (16 * c.loop-from.from + c.min-count.result) (16 * (c.loop-from.from + 1)) c.loop-from.invariant.rest c.push_rows.ensures.rest (omega arith) (omega arith);
+      added = one_origin_more (rows_of c.loop-from.rows.items) (rows_of c.push_rows.new.rows.items) xs ys c.loop-from.from _ c.loop-from.invariant.added c.loop-from.invariant.rest c.in_ok-push_rows.ensures.rows;
+      rest = same_later xs ys (rows_of c.push_rows.new.written.items) (16 * c.loop-from.from) _ (16 * (c.loop-from.from + 1)) c.loop-from.invariant.rest c.push_rows.ensures.rest (omega arith) (omega arith);
     }
