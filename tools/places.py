@@ -121,7 +121,7 @@ SEARCHES = [
     ("6b a count beside a buffer", lambda: lines(r"^ *(count|len|step_count|beyond): (usize|bool),$")),
     ("6c a list of lists", lambda: lines(r"^ *(pub )?\w+: &?(mut )?Vec<(Option<)?Vec<")),
     ("6d a place reckoned by hand", lambda: lines(r"\[[^\]]*[*+][^\]]*\]|= \w+ \* \w+ \+ ")),
-    ("7 a match that picks a function to run", lambda: lines(r"^ *\w+::\w+(\(\w+\)| \{.*\})? => \w+(::<.*>)?\(")),
+    ("7 a match that picks a function to run", lambda: lines(r"^ *\w+::\w+(\(\w+\)| \{.*\})? => (self\.)?\w+(::<.*>)?\(")),
 ]
 
 

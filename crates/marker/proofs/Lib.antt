@@ -1,4 +1,5 @@
 pub mod Parts
 pub mod Fits
+pub mod FirstAnswers
+pub mod Rows
 pub mod Searches
-pub mod Cached

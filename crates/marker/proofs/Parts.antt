@@ -1,6 +1,6 @@
 -- What the tests' parts say: `some_is` and `any`.
-use Rattle.std.proofs.Common.{◌≡◌, ℕ, zero, suc, ◌<◌, Bool, true, false, List, [], ◌∷◌, length, Some, None, Option, sym, refl, ap, ◌∙◌, ⊎_elim, arith}
-use Rattle.std.proofs.lemmas.Bool.{true≢false, both_ways, cases_Bool, or_cases, or_left, or_right}
+use Rattle.std.proofs.Common.{◌≡◌, ℕ, zero, suc, ◌<◌, Bool, true, List, [], ◌∷◌, length, Some, None, Option, sym, refl, ap, ◌∙◌, ⊎_elim, arith}
+use Rattle.std.proofs.lemmas.Bool.{true≢false, or_cases, or_left, or_right}
 use Rattle.std.specs.List.{slice_get}
 use Rattle.model.proofs.Firsts.{some≢none}
 use Rattle.marker.specs.Verdicts.{some_is, any}
@@ -23,12 +23,6 @@ module _ {A : Type 0} where
   any_from [] p k x e h = absurd (some≢none (sym e))
   any_from (y ∷ ys) p zero x e h = let same : y ≡ x = cc in or_left (p y) (any ys p) (ap p same ∙ h)
   any_from (y ∷ ys) p (suc k) x e h = or_right (p y) (any ys p) (any_from ys p k x e h)
-
-  -- no place below m has an element that passes, and none beyond has any
-  pub any_none : (xs : List A) (p : A → Bool) (m : ℕ) → ((k : ℕ) (x : A) → slice_get xs k ≡ Some x → k < m) → ((k : ℕ) → k < m → some_is (slice_get xs k) p ≡ false) → any xs p ≡ false
-  any_none xs p m few none =
-      ⊎_elim (λ h. let r = any_parts xs p h in absurd (both_ways _ (none r.0 (few r.0 r.1 r.2)) (some_from (slice_get xs r.0) p r.1 r.2 r.3)))
-      (λ h. h) (cases_Bool (any xs p))
 
   pub nth_below : (xs : List A) (k : ℕ) (x : A) → slice_get xs k ≡ Some x → k < length xs
   nth_below [] k x e = absurd (some≢none (sym e))

@@ -1,5 +1,5 @@
 -- The search names the first fault.
-use Rattle.std.proofs.Common.{◌≡◌, ℕ, zero, suc, ◌+◌, ◌<◌, ◌≤◌, Bool, true, false, cond, List, [], ◌∷◌, length, drop, Some, None, Option, sym, refl, ap, ◌∙◌, subst, ⊎_elim, add-one, arith}
+use Rattle.std.proofs.Common.{◌≡◌, ℕ, zero, suc, ◌<◌, Bool, true, false, cond, List, [], ◌∷◌, Some, None, Option, unwrap_or, sym, refl, ap, ◌∙◌, subst, ⊎_elim, arith}
 use mathlib.Core.Path.{subst₃}
 use Rattle.std.specs.List.{slice_get}
 use Rattle.model.specs.Data.{JobData, NetData}
@@ -15,6 +15,7 @@ use Rattle.marker.specs.declared.verdict.Verdict.{Verdict}
 use Rattle.marker.specs.declared.verdict.Verdict.TheVariants.{Lawful, Broken}
 use Rattle.marker.specs.declared.verdict.Rule.{Rule}
 use Rattle.marker.specs.declared.verdict.Rule.TheVariants.{Rows, Predecessors, Routed, WithinLimit, Departure, Causality, Arrival, Machines, Links}
+use Rattle.marker.proofs.FirstAnswers.{first_answer}
 use Rattle.marker.proofs.Fits.{fits}
 
 lawful≢broken : {r : Rule} {x y : ℕ} → Lawful ≡ Broken r x y → ⊥
@@ -27,6 +28,10 @@ told false w v e = absurd (some≢none (sym e))
 untold : {A : Type 0} (b : Bool) (w : A) → cond b (Some w) None ≡ None → b ≡ true → ⊥
 untold true w e h = some≢none e
 untold false w e h = let z : ◌≡◌ {A = ℕ} 0 1 = cc in omega arith
+
+pub found_is : (o : Option Verdict) → unwrap_or o Lawful ≡ found o
+found_is None = refl
+found_is (Some v) = refl
 
 -- each rule stands at its place
 listed : (r : Rule) → slice_get order (place r) ≡ Some r
@@ -55,19 +60,6 @@ place_at (suc (suc (suc (suc (suc (suc zero)))))) r e = ap place_of e
 place_at (suc (suc (suc (suc (suc (suc (suc zero))))))) r e = ap place_of e
 place_at (suc (suc (suc (suc (suc (suc (suc (suc zero)))))))) r e = ap place_of e
 place_at (suc (suc (suc (suc (suc (suc (suc (suc (suc i))))))))) r e = absurd (some≢none (sym e))
-
-drop_at : {A : Type 0} (xs : List A) (k : ℕ) (x : A) → slice_get xs k ≡ Some x → drop k xs ≡ x ∷ drop (suc k) xs
-drop_at [] k x e = absurd (some≢none (sym e))
-drop_at (y ∷ ys) zero x e = let same : y ≡ x = cc in ap (λ z. z ∷ ys) same
-drop_at (y ∷ ys) (suc k) x e = drop_at ys k x e
-
-not_nth : {A : Type 0} (xs : List A) (k : ℕ) → slice_get xs k ≡ None → length xs ≤ k
-not_nth [] k e = omega arith
-not_nth (x ∷ xs) zero e = absurd (some≢none e)
-not_nth (x ∷ xs) (suc k) e = omega (arith, not_nth xs k e)
-
-pub ruled : (k : ℕ) → k < 9 → None ≡ slice_get order k → ⊥
-ruled k l e = omega (arith, not_nth order k (sym e))
 
 module _ (J : JobData) (N : NetData) (ρ : Ways) (P : PlanData) where
   -- no answer at x means no fault at x, and no answer at x y none at x y
@@ -108,21 +100,11 @@ module _ (J : JobData) (N : NetData) (ρ : Ways) (P : PlanData) where
   rules_none (s ∷ rs) e zero r h = let same : r ≡ s = cc in ap (search_rule J N ρ P) same ∙ (or_none _ _ e).0
   rules_none (s ∷ rs) e (suc i) r h = rules_none rs (or_none (search_rule J N ρ P s) _ e).1 i r h
 
-  -- the same in a loop's steps
-  pub rules_passed : (rs : List Rule) (k : ℕ) (r : Rule) → Some r ≡ slice_get rs k → None ≡ search_rule J N ρ P r → search_rules J N ρ P (drop k rs) ≡ search_rules J N ρ P (drop (k + 1) rs)
+  -- the search is for the first answer in the list
+  pub first_rules : (rs : List Rule) → first_answer (search_rule J N ρ P) rs ≡ search_rules J N ρ P rs
   unfolding search_rules
-  rules_passed rs k r a e =
-      ap (search_rules J N ρ P) (drop_at rs k r (sym a))
-      ∙ ap (λ o. or_else o (search_rules J N ρ P (drop (suc k) rs))) (sym e)
-      ∙ ap (λ n. search_rules J N ρ P (drop n rs)) (sym (add-one k))
-
-  pub rules_found : (rs : List Rule) (k : ℕ) (r : Rule) (v : Verdict) → Some r ≡ slice_get rs k → Some v ≡ search_rule J N ρ P r → search_rules J N ρ P (drop k rs) ≡ Some v
-  unfolding search_rules
-  rules_found rs k r v a e = ap (search_rules J N ρ P) (drop_at rs k r (sym a)) ∙ ap (λ o. or_else o (search_rules J N ρ P (drop (suc k) rs))) (sym e)
-
-  pub rules_past : (k : ℕ) → 9 ≡ k → search_rules J N ρ P (drop k order) ≡ None
-  unfolding search_rules
-  rules_past k e = ap (λ n. search_rules J N ρ P (drop n order)) (sym e)
+  first_rules [] = refl
+  first_rules (r ∷ rs) = ap (or_else (search_rule J N ρ P r)) (first_rules rs)
 
   abbrev By : List Rule → Verdict → Type 0
   By rs v = (i : ℕ) × (r : Rule) × (slice_get rs i ≡ Some r) × (search_rule J N ρ P r ≡ Some v) × ((j : ℕ) (s : Rule) → j < i → slice_get rs j ≡ Some s → search_rule J N ρ P s ≡ None)

@@ -2,3 +2,4 @@ pub mod Letters
 pub mod Faults
 pub mod Verdicts
 pub mod Table
+pub mod Markings

@@ -1,5 +1,5 @@
--- A table of all legs of a plan: what it says, and that it tells the legs right.
-use Rattle.std.specs.Prelude.{◌≡◌, ℕ, ◌+◌, ◌*◌, if◌then◌else◌, ◌&&◌, None, Option, nat_lt, slice_index_or}
+-- A table of all legs of a plan, a row for each edge: what it says, and that it tells the legs right.
+use Rattle.std.specs.Prelude.{◌≡◌, ℕ, List, [], None, Option, slice_index_or}
 use Rattle.std.specs.List.{slice_get}
 use Rattle.model.specs.Data.{JobData, NetData}
 use Rattle.model.specs.Plans.{PlanData}
@@ -9,8 +9,12 @@ use Rattle.marker.specs.declared.legs.LegTable.{LegTable}
 
 -- the leg of edge i on hop k, by the table
 abbrev pub told : LegTable → ℕ → ℕ → Option Booking
-told T i k = if nat_lt i 224 && nat_lt k 15 then slice_index_or T.legs (i * 15 + k) None else None
+told T i k = slice_index_or (slice_index_or T.rows i []) k None
 
 -- the table has the legs of this plan
 abbrev pub Tells : LegTable → JobData → NetData → Ways → PlanData → Type 0
 Tells T J N ρ P = (i k : ℕ) → told T i k ≡ slice_get (legs J N ρ P i) k
+
+-- a row has these legs, hop by hop, and no more
+abbrev pub RowTells : List (Option Booking) → List Booking → Type 0
+RowTells row bs = (k : ℕ) → slice_index_or row k None ≡ slice_get bs k

@@ -2,6 +2,7 @@
 #![tactic(auto)]
 
 mod legs;
+mod marking;
 mod rules;
 pub mod search;
 pub mod verdict;

@@ -1,9 +1,11 @@
 //! What the marker says of a plan.
-ghost use Rattle.std.specs.Prelude.{◌≡◌};
+ghost use Rattle.std.specs.Prelude.{◌≡◌, [], ◌∷◌, Some};
 ghost use Rattle.marker.specs.Letters.{letter};
 
+use std::fmt;
+
 /// The rules, by what each is about.
-#[derive(Clone, Copy)]
+#[derive(Clone, Copy, Debug, PartialEq, Eq)]
 pub enum Rule {
     /// A. Each filled row names a task or an edge of the job, and each placed task's station is a machine.
     Rows,
@@ -26,6 +28,19 @@ pub enum Rule {
 }
 
 impl Rule {
+    /// All rules, in the order in which they are looked at.
+    pub const ALL: [Rule; 9] = [
+        Rule::Rows,
+        Rule::Predecessors,
+        Rule::Routed,
+        Rule::WithinLimit,
+        Rule::Departure,
+        Rule::Causality,
+        Rule::Arrival,
+        Rule::Machines,
+        Rule::Links,
+    ];
+
     /// The letter of the rule.
     pub fn letter(self) -> char
         ensures { result ≡ letter self }
@@ -44,8 +59,17 @@ impl Rule {
     }
 }
 
+impl fmt::Display for Rule {
+    ghost output = { λ r. Some (letter r ∷ []) };
+
+    fn fmt<W: fmt::Write>(&self, f: &mut fmt::Formatter<W>) -> fmt::Result {
+        let letter = self.letter();
+        write!(f, "{letter}")
+    }
+}
+
 /// A plan is lawful, or a rule is broken by two numbers.
-#[derive(Clone, Copy)]
+#[derive(Clone, Copy, Debug, PartialEq, Eq)]
 pub enum Verdict {
     Lawful,
     /// For A and D, 0 and the task or 1 and the edge; for B, C, E and G, the edge and 0;

@@ -1,20 +1,12 @@
 //! Three tasks on three machines in a line, and two tasks on one machine.
-use marker::{Verdict, mark};
+use marker::{Rule, Verdict, mark};
 use model::plan::measures::{placed_count, plan_length};
 use model::{
-    Edge, Job, Link, Network, Placement, Plan, Refusal, Speed, Station, StationSet, TransferRow,
+    Edge, Job, Link, Network, Placement, Plan, Speed, Station, StationSet, Tick, TransferRow,
 };
 use routes::{Hop, Routes, WrittenRoutes};
 use std::alloc::Global;
 use std::test::Fail;
-
-/// What a maker made; a refusal fails the test.
-fn made<T>(res: Result<T, Refusal>) -> Result<T, Fail> {
-    match res {
-        Ok(value) => Ok(value),
-        Err(refusal) => Err(Fail::new(refusal.number())),
-    }
-}
 
 fn machine(rate: u32) -> Station {
     Station::Machine(Speed { rate })
@@ -34,7 +26,7 @@ fn link(a: usize, b: usize, rate: u32) -> Link {
 fn line(heap: Global) -> Result<WrittenRoutes, Fail> {
     let stations = vec![in heap; machine(1), machine(2), machine(1)]?;
     let links = vec![in heap; link(0, 1, 1), link(1, 2, 2)]?;
-    let network = made(Network::new(stations, links))?;
+    let network = Network::new(stations, links)?;
     let first = Hop {
         link: 0,
         station: 1,
@@ -43,21 +35,18 @@ fn line(heap: Global) -> Result<WrittenRoutes, Fail> {
         link: 1,
         station: 2,
     };
-    let mut rows = Vec::new(heap);
-    for from in 0..3 {
-        for to in 0..3 {
-            if from == to {
-                rows.push(Some(Vec::new(heap)))?;
-            } else if from == 0 && to == 1 {
-                rows.push(Some(vec![in heap; first]?))?;
-            } else if from == 0 && to == 2 {
-                rows.push(Some(vec![in heap; first, second]?))?;
-            } else {
-                rows.push(None)?;
-            }
-        }
-    }
-    made(WrittenRoutes::new(network, rows))
+    let rows = vec![in heap;
+        Some(Vec::new(heap)),
+        Some(vec![in heap; first]?),
+        Some(vec![in heap; first, second]?),
+        None,
+        Some(Vec::new(heap)),
+        None,
+        None,
+        None,
+        Some(Vec::new(heap)),
+    ]?;
+    Ok(WrittenRoutes::new(network, rows)?)
 }
 
 /// Works 4, 6 and 3; edge 0 from task 0 to 1 of volume 4, edge 1 from task 0 to 2 of volume 6.
@@ -73,77 +62,43 @@ fn three_tasks(heap: Global) -> Result<Job, Fail> {
         to: 2,
         volume: 6,
     };
-    made(Job::new(works, vec![in heap; to_one, to_two]?))
+    Ok(Job::new(works, vec![in heap; to_one, to_two]?)?)
+}
+
+/// Tasks by rising number, each on a station and from a start.
+fn placed(tasks: &[(usize, Tick)]) -> Result<Plan, Fail> {
+    let mut plan = Plan::new();
+    for (t, (station, start)) in tasks.iter().enumerate() {
+        plan.set_task(
+            t,
+            Placement {
+                station: *station,
+                start: *start,
+            },
+        )?;
+    }
+    Ok(plan)
+}
+
+fn row(starts: &[Tick]) -> Result<TransferRow, Fail> {
+    let mut row = TransferRow::new();
+    for start in starts {
+        row.push(*start)?;
+    }
+    Ok(row)
 }
 
 /// Each task on its own machine, from 0, 8 and 14; edge 0 from 4, edge 1 from 8 and from `second`.
-fn drawn(second: u32) -> Plan {
-    let mut plan = Plan::new();
-    let _ = plan.set_task(
-        0,
-        Placement {
-            station: 0,
-            start: 0,
-        },
-    );
-    let _ = plan.set_task(
-        1,
-        Placement {
-            station: 1,
-            start: 8,
-        },
-    );
-    let _ = plan.set_task(
-        2,
-        Placement {
-            station: 2,
-            start: 14,
-        },
-    );
-    let mut row = TransferRow::new();
-    let _ = row.push(4);
-    let _ = plan.set_transfer(0, row);
-    let mut row = TransferRow::new();
-    let _ = row.push(8);
-    let _ = row.push(second);
-    let _ = plan.set_transfer(1, row);
-    plan
+fn drawn(second: Tick) -> Result<Plan, Fail> {
+    let mut plan = placed(&[(0, 0), (1, 8), (2, 14)])?;
+    plan.set_transfer(0, row(&[4])?)?;
+    plan.set_transfer(1, row(&[8, second])?)?;
+    Ok(plan)
 }
 
 /// Two tasks on machine 0, from 0 and from `second`.
-fn beside(second: u32) -> Plan {
-    let mut plan = Plan::new();
-    let _ = plan.set_task(
-        0,
-        Placement {
-            station: 0,
-            start: 0,
-        },
-    );
-    let _ = plan.set_task(
-        1,
-        Placement {
-            station: 0,
-            start: second,
-        },
-    );
-    plan
-}
-
-fn is_lawful(verdict: Verdict) -> bool {
-    match verdict {
-        Verdict::Lawful => true,
-        Verdict::Broken(_, _, _) => false,
-    }
-}
-
-fn is_broken(verdict: Verdict, letter: char, x: usize, y: usize) -> bool {
-    match verdict {
-        Verdict::Lawful => false,
-        Verdict::Broken(rule, first, second) => {
-            rule.letter() == letter && first == x && second == y
-        }
-    }
+fn beside(second: Tick) -> Result<Plan, Fail> {
+    placed(&[(0, 0), (0, second)])
 }
 
 #[test]
@@ -151,12 +106,18 @@ fn three_machines(rt: HostRuntime) -> Result<(), Fail> {
     let heap = rt.alloc();
     let routes = line(heap)?;
     let job = three_tasks(heap)?;
-    let plan = drawn(11);
-    assert!(rt; is_lawful(mark(&routes, &job, &plan)));
-    assert!(rt; placed_count(&plan) == 3);
-    assert!(rt; plan_length(&job, routes.network(), &plan) == 17);
-    assert!(rt; is_broken(mark(&routes, &job, &drawn(10)), 'F', 1, 1));
-    assert!(rt; is_broken(mark(&routes, &job, &drawn(12)), 'G', 1, 0));
+    let plan = drawn(11)?;
+    assert_eq!(rt; mark(&routes, &job, &plan), Verdict::Lawful);
+    assert_eq!(rt; placed_count(&plan), 3);
+    assert_eq!(rt; plan_length(&job, routes.network(), &plan), 17);
+    assert_eq!(rt;
+        mark(&routes, &job, &drawn(10)?),
+        Verdict::Broken(Rule::Causality, 1, 1)
+    );
+    assert_eq!(rt;
+        mark(&routes, &job, &drawn(12)?),
+        Verdict::Broken(Rule::Arrival, 1, 0)
+    );
     Ok(())
 }
 
@@ -164,8 +125,21 @@ fn three_machines(rt: HostRuntime) -> Result<(), Fail> {
 fn one_machine(rt: HostRuntime) -> Result<(), Fail> {
     let heap = rt.alloc();
     let routes = line(heap)?;
-    let job = made(Job::new(vec![in heap; 5, 2]?, Vec::new(heap)))?;
-    assert!(rt; is_lawful(mark(&routes, &job, &beside(5))));
-    assert!(rt; is_broken(mark(&routes, &job, &beside(4)), 'H', 0, 1));
+    let job = Job::new(vec![in heap; 5, 2]?, Vec::new(heap))?;
+    assert_eq!(rt; mark(&routes, &job, &beside(5)?), Verdict::Lawful);
+    assert_eq!(rt;
+        mark(&routes, &job, &beside(4)?),
+        Verdict::Broken(Rule::Machines, 0, 1)
+    );
+    Ok(())
+}
+
+#[test]
+fn letters(rt: HostRuntime) -> Result<(), Fail> {
+    let heap = rt.alloc();
+    assert_eq!(rt; Rule::Causality.letter(), 'F');
+    assert_eq!(rt; Rule::Arrival.letter(), 'G');
+    assert_eq!(rt; Rule::Machines.letter(), 'H');
+    assert_eq!(rt; Rule::Machines.to_string(heap)?.as_str(), "H");
     Ok(())
 }

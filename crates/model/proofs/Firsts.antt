@@ -1,21 +1,8 @@
--- A loop's steps over `first_refusal`: element i passes, is refused, or there is none; and what no refusal at all means.
-use Rattle.std.proofs.Common.{◌≡◌, ℕ, zero, suc, ◌+◌, ◌<◌, ◌≤◌, false, List, [], ◌∷◌, length, get_or, drop, is_some, Some, None, Option, sym, refl, ap, ◌∙◌, arith}
-use Rattle.std.proofs.lemmas.List.{at_drop_more, at_drop_all}
+-- What no refusal at all means.
+use Rattle.std.proofs.Common.{◌≡◌, ℕ, zero, suc, ◌+◌, true, false, List, [], ◌∷◌, is_some, is_ok, Some, None, Option, Ok, Err, Result, sym, refl, ap, ◌∙◌, arith}
 use Rattle.std.specs.List.{slice_get}
-use Rattle.model.specs.Refusals.{or_else, first_refusal}
-
-module _ {X E : Type 0} (refuse : ℕ → X → Option E) (xs : List X) (i : ℕ) where
-  abbrev rest : Option E → Option E
-  rest o = or_else o (first_refusal refuse (i + 1) (drop (i + 1) xs))
-
-  pub first_passed : (d : X) → i < length xs → refuse i (get_or xs i d) ≡ None → first_refusal refuse i (drop i xs) ≡ first_refusal refuse (i + 1) (drop (i + 1) xs)
-  first_passed d within passed = at_drop_more (first_refusal refuse i) xs i d within ∙ ap rest passed
-
-  pub first_refused : (d : X) {r : E} → i < length xs → refuse i (get_or xs i d) ≡ Some r → first_refusal refuse i (drop i xs) ≡ Some r
-  first_refused d within refused = at_drop_more (first_refusal refuse i) xs i d within ∙ ap rest refused
-
-  pub first_none : length xs ≤ i → first_refusal refuse i (drop i xs) ≡ None
-  first_none past = at_drop_all (first_refusal refuse i) xs i past
+use Rattle.std.proofs.lemmas.Bool.{true≢false}
+use Rattle.model.specs.Refusals.{or_else, first_refusal, refusal_of}
 
 pub some≢none : {A : Type 0} {x : A} → Some x ≡ None → ⊥
 some≢none e = let z : ◌≡◌ {A = ℕ} 0 1 = cc in omega arith
@@ -23,9 +10,6 @@ some≢none e = let z : ◌≡◌ {A = ℕ} 0 1 = cc in omega arith
 pub none_from : {E : Type 0} (o : Option E) → is_some o ≡ false → o ≡ None
 none_from None e = refl
 none_from (Some x) e = let z : ◌≡◌ {A = ℕ} 0 1 = cc in absurd (omega arith)
-
-pub none_to : {E : Type 0} (o : Option E) → o ≡ None → is_some o ≡ false
-none_to o e = ap is_some e
 
 pub or_none : {E : Type 0} (o p : Option E) → or_else o p ≡ None → (o ≡ None) × (p ≡ None)
 or_none None p e = (refl, e)
@@ -55,3 +39,8 @@ first_pass refuse i (y ∷ ys) pass =
     (first_pass refuse (i + 1) ys (λ k x e.
     let next : i + 1 + k ≡ i + suc k = omega arith in
     ap (λ n. refuse n x) next ∙ pass (suc k) x e))
+
+-- a maker's answer is good exactly if nothing is refused
+pub unrefused : {X E : Type 0} (r : Result X E) (o : Option E) → refusal_of r ≡ o → (is_ok r ≡ true → o ≡ None) × (o ≡ None → is_ok r ≡ true)
+unrefused (Ok x) o e = (λ _. sym e, λ _. refl)
+unrefused (Err x) o e = (λ h. absurd (true≢false (sym h)), λ none. absurd (some≢none (e ∙ none)))

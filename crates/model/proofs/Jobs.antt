@@ -1,8 +1,8 @@
 -- A job is refused nothing exactly if its limits hold.
-use Rattle.std.proofs.Common.{◌≡◌, ℕ, zero, suc, ◌+◌, ◌<◌, ◌≤◌, true, false, List, [], ◌∷◌, length, take, Some, None, sym, refl, ap, ◌∙◌, ⊎_elim, zero-add, arith}
+use Rattle.std.proofs.Common.{◌≡◌, ℕ, zero, suc, ◌+◌, ◌<◌, ◌≤◌, true, false, ◌||◌, List, [], ◌∷◌, length, take, Some, None, sym, refl, ap, ◌∙◌, ⊎_elim, zero-add, arith}
 use Rattle.std.proofs.lemmas.Bool.{cases_Bool, true≢false}
 use Rattle.std.proofs.lemmas.Bool.Decides.{nat_tests}
-use Rattle.std.specs.List.{slice_get}
+use Rattle.std.specs.List.{list_any, slice_get}
 use Rattle.model.specs.Refusals.{or_else, first_refusal}
 use Rattle.model.specs.Data.{job_of}
 use Rattle.model.specs.JobLimits.{task_refusal, same_pair, joins_pair, edge_refusal, job_refusal, JobLimits}
@@ -104,3 +104,8 @@ job_passes works edges l =
 -- what the limits of a job tell the crates above
 pub of_job : (j : Job) → JobLimits (job_of j).works (job_of j).edges
 of_job j = job_limits (job_of j).works (job_of j).edges (none_from (job_refusal (job_of j).works (job_of j).edges) j.limits)
+
+-- an edge joins the pair of one of a list
+pub joins_any : (e : Edge) (fs : List Edge) → joins_pair e fs ≡ list_any (same_pair e) fs
+joins_any e [] = refl
+joins_any e (f ∷ fs) = ap (λ b. same_pair e f || b) (joins_any e fs)

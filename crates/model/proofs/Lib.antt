@@ -3,5 +3,5 @@ pub mod Firsts
 pub mod Lowests
 pub mod Jobs
 pub mod Networks
-pub mod Places
 pub mod Tables
+pub mod Counts

@@ -1,5 +1,6 @@
 -- Rounding up: `ticks` is the fewest ticks that are enough, and the code's quotient with its remainder.
-use Rattle.std.proofs.Common.{◌≡◌, ℕ, ◌+◌, ◌-◌, ◌*◌, ◌/◌, ◌%◌, ◌<◌, ◌≤◌, ◌≢◌, sym, ap, ◌∙◌, mod-lt, mul_comm, div-lt_iff_lt-mul, add-mul, div-add-mod', mul-add, arith}
+use Rattle.std.proofs.Common.{◌≡◌, ℕ, ◌+◌, ◌-◌, ◌*◌, ◌/◌, ◌%◌, ◌<◌, ◌≤◌, min, sym, ap, subst, ◌∙◌, mul_comm, div-lt_iff_lt-mul, add-mul, mul-add, arith}
+use Rattle.std.proofs.lemmas.Grind.{div_ceil_times}
 use native.Mathlib.Nat.{div-zero, div-eq_of_lt-le, lt-mul-div-succ}
 use Rattle.model.specs.Lengths.{ticks, RoundedUp}
 use Rattle.model.specs.declared.speed.Speed.{Speed}
@@ -21,24 +22,18 @@ rounded_up a v pos =
           omega arith;
     }
 
-pub ticks_whole : (a : ℕ) (v : Speed) → 1 ≤ v.rate → a % v.rate ≡ 0 → a / v.rate ≡ ticks a v
+pub ticks_ceil : (a : ℕ) (v : Speed) → 1 ≤ v.rate → a / v.rate + min 1 (a % v.rate) ≡ ticks a v
 unfolding ticks
-ticks_whole a v pos e =
+ticks_ceil a v pos =
     let s = v.rate in
-    let q = a / s in
-    let low : q * s ≤ a + (s - 1) = omega (arith, div-add-mod' a s) in
-    let high : a + (s - 1) < (q + 1) * s = omega (arith, div-add-mod' a s, add-mul q 1 s) in
+    let q = a / s + min 1 (a % s) in
+    let bounds = div_ceil_times a s pos in
+    let low : q * s ≤ a + (s - 1) = omega (arith, bounds.1) in
+    let high : a + (s - 1) < (q + 1) * s = omega (arith, bounds.0, add-mul q 1 s) in
     sym (div-eq_of_lt-le {k = q} s {m = a + (s - 1)} low high)
 
-pub ticks_part : (a : ℕ) (v : Speed) → 1 ≤ v.rate → a % v.rate ≢ 0 → a / v.rate + 1 ≡ ticks a v
-unfolding ticks
-ticks_part a v pos ne =
-    let s = v.rate in
-    let q = a / s in
-    let less : a % s < s = mod-lt a {m = s} pos in
-    let low : (q + 1) * s ≤ a + (s - 1) = omega (arith, div-add-mod' a s, add-mul q 1 s) in
-    let high : a + (s - 1) < (q + 1 + 1) * s = omega (arith, div-add-mod' a s, add-mul q 1 s, add-mul (q + 1) 1 s) in
-    sym (div-eq_of_lt-le {k = q + 1} s {m = a + (s - 1)} low high)
+pub rounded_ceil : (a : ℕ) (v : Speed) → 1 ≤ v.rate → RoundedUp a v (a / v.rate + min 1 (a % v.rate))
+rounded_ceil a v pos = subst (RoundedUp a v) (sym (ticks_ceil a v pos)) (rounded_up a v pos)
 
 -- an amount never takes more ticks than there is of it
 pub ticks_few : (a : ℕ) (v : Speed) → 1 ≤ v.rate → ticks a v ≤ a

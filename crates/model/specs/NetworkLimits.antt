@@ -16,6 +16,10 @@ abbrev pub station_refusal : ℕ → Station → Option Refusal
 station_refusal i (Machine v) = if speed_ok v then None else Some (ValueLimits i)
 station_refusal i Switch = None
 
+abbrev pub is_a_machine : Station → Bool
+is_a_machine (Machine v) = true
+is_a_machine Switch = false
+
 abbrev pub has_machine : List Station → Bool
 has_machine [] = false
 has_machine (Machine v ∷ ss) = true

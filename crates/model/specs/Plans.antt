@@ -1,10 +1,12 @@
 -- A plan as lists, with no unused places; reading and writing its rows and steps.
-use Rattle.std.specs.Prelude.{ℕ, ◌+◌, ◌-◌, max, Bool, ◌&&◌, List, [], ◌∷◌, ◌++◌, map, length, take, replicate, Some, None, Option, nat_lt, slice_index_or, slice_set}
+use Rattle.std.specs.Prelude.{ℕ, ◌+◌, ◌-◌, max, Bool, ◌&&◌, List, [], ◌∷◌, ◌++◌, map, length, take, replicate, Some, None, Option, Ok, Err, Result, if◌then◌else◌, nat_lt, slice_index_or, slice_set}
 use Rattle.std.specs.List.{slice_get}
 use Rattle.model.specs.Data.{JobData, NetData, task_length}
 use Rattle.model.specs.declared.plan.Placement.{Placement}
 use Rattle.model.specs.declared.plan.Plan.{Plan}
 use Rattle.model.specs.declared.plan.TransferRow.{TransferRow}
+use Rattle.model.specs.declared.plan.error.PlanError.{PlanError}
+use Rattle.model.specs.declared.plan.error.PlanError.TheVariants.{NoSuchRow, Full}
 
 -- the row of each task, the starts of each edge's transfer, and the tasks in the order placed
 pub record PlanData : Type 0 where
@@ -49,6 +51,13 @@ without_last_step P = record { tasks = P.tasks; transfers = P.transfers; steps =
 -- a step can be added: it is of a row, and there is room for one more
 abbrev pub step_fits : PlanData → ℕ → Bool
 step_fits P t = nat_lt t 128 && nat_lt (length P.steps) 128
+
+abbrev pub step_answer : PlanData → ℕ → Result (Unit {0}) PlanError
+step_answer P t = if nat_lt t 128 then (if nat_lt (length P.steps) 128 then Ok tt else Err Full) else Err NoSuchRow
+
+-- what adding a start to the starts of a row answers
+abbrev pub start_answer : List ℕ → Result (Unit {0}) PlanError
+start_answer ss = if nat_lt (length ss) 15 then Ok tt else Err Full
 
 -- measures
 

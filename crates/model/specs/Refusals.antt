@@ -1,5 +1,7 @@
 -- The number and the detail of each refusal, and the first refusal of a list of records.
-use Rattle.std.specs.Prelude.{ℕ, ◌+◌, List, [], ◌∷◌, Some, None, Ok, Err, Option, Result}
+use Rattle.std.specs.Prelude.{◌≡◌, ℕ, ◌+◌, List, [], ◌∷◌, Some, None, Ok, Err, Option, Result, codes, decimal}
+use Rattle.std.specs.List.{concat}
+use Rattle.std.specs.Borrow.{Bor}
 use Rattle.model.specs.declared.refusal.Refusal.{Refusal}
 use Rattle.model.specs.declared.refusal.Refusal.TheVariants.{ListLength, ValueLimits, BadEdge, BadLink, NoMachine, BadRoute, NoSuchTask, NotAMachine, AlreadyPlaced, PredecessorUnplaced, NothingToTakeBack, NoRoute, NoRoom, NoStart, EveryMachineRefuses, NotInOrder}
 
@@ -39,6 +41,10 @@ refusal_detail (NoStart r) = r
 refusal_detail (EveryMachineRefuses t) = t
 refusal_detail NotInOrder = 0
 
+-- the number and the detail, in decimal
+abbrev pub refusal_text : Refusal → List ℕ
+refusal_text r = concat (decimal (refusal_number r) ∷ codes " " ∷ decimal (refusal_detail r) ∷ [])
+
 -- the first answer, if there is one
 abbrev pub or_else : {E : Type 0} → Option E → Option E → Option E
 or_else None o = o
@@ -53,3 +59,7 @@ first_refusal refuse i (x ∷ xs) = or_else (refuse i x) (first_refusal refuse (
 abbrev pub refusal_of : {X E : Type 0} → Result X E → Option E
 refusal_of (Ok x) = None
 refusal_of (Err e) = Some e
+
+-- whatever a test answers of an item at a place is what `refuse` says of it
+abbrev pub RefusesBy : {X E : Type 0} → (ℕ → Bor X → Result (Unit {0}) E → Type 0) → (ℕ → X → Option E) → Type 0
+RefusesBy {X} {E} answers refuse = (i : ℕ) (x : Bor X) (r : Result (Unit {0}) E) → answers i x r → refusal_of r ≡ refuse i x.now

@@ -6,7 +6,7 @@ use crate::tick::Tick;
 
 /// `resource` is taken for `length` ticks from `start`.
 /// Resources 0 to 15 are the stations; resource 16 + l is link l.
-#[derive(Clone, Copy)]
+#[derive(Clone, Copy, Debug, PartialEq, Eq)]
 pub struct Booking {
     pub resource: usize,
     pub start: Tick,

@@ -6,7 +6,7 @@ pub mod make;
 pub mod view;
 
 /// The task `from` feeds a file of `volume` to the task `to`.
-#[derive(Clone, Copy)]
+#[derive(Clone, Copy, Debug, PartialEq, Eq)]
 pub struct Edge {
     pub from: usize,
     pub to: usize,

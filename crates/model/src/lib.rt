@@ -13,6 +13,7 @@ pub mod tick;
 pub use booking::Booking;
 pub use job::{Edge, Job};
 pub use network::{Link, Network, Station};
+pub use plan::error::PlanError;
 pub use plan::{Placement, Plan, TransferRow};
 pub use refusal::Refusal;
 pub use speed::Speed;

@@ -8,15 +8,21 @@ use crate::stations::StationSet;
 pub mod make;
 pub mod view;
 
+/// How many stations a network has at most.
+pub const MOST_STATIONS: usize = 16;
+
+/// How many links a network has at most.
+pub const MOST_LINKS: usize = 32;
+
 /// A machine does tasks; a switch only passes files on.
-#[derive(Clone, Copy)]
+#[derive(Clone, Copy, Debug, PartialEq, Eq)]
 pub enum Station {
     Machine(Speed),
     Switch,
 }
 
 /// Carries one transfer at a time, between any two of its stations, in either direction.
-#[derive(Clone, Copy)]
+#[derive(Clone, Copy, Debug, PartialEq, Eq)]
 pub struct Link {
     pub stations: StationSet,
     pub speed: Speed,

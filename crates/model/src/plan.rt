@@ -5,6 +5,7 @@ ghost use Rattle.model.specs.Rows.{stations_fit};
 use crate::tick::Tick;
 
 pub mod edits;
+pub mod error;
 pub mod measures;
 pub mod transfer;
 pub mod view;
@@ -19,16 +20,17 @@ pub const TRANSFER_ROWS: usize = 224;
 pub const MOST_HOPS: usize = 15;
 
 /// Where and when a task is placed.
-#[derive(Clone, Copy)]
+#[derive(Clone, Copy, Debug, PartialEq, Eq)]
 pub struct Placement {
     pub station: usize,
     pub start: Tick,
 }
 
 /// The starts of one transfer, one for each hop of its route: the first `count` of `starts`.
+/// An array, since a row is `Copy` and a plan never allocates.
 #[derive(Clone, Copy)]
 pub struct TransferRow {
-    starts: [Tick; 15],
+    starts: [Tick; MOST_HOPS],
     count: usize,
     ghost few: { count ≤ 15 },
     ghost room: { length starts ≡ 15 },
@@ -36,11 +38,12 @@ pub struct TransferRow {
 
 /// Which machine does each task and when, and when each transfer is on each link of its route.
 /// The steps are the tasks in the order in which they were placed: the first `step_count` of `steps`.
+/// They stand in arrays, since a plan never allocates.
 #[derive(Drop)]
 pub struct Plan {
-    tasks: [Option<Placement>; 128],
-    transfers: [TransferRow; 224],
-    steps: [usize; 128],
+    tasks: [Option<Placement>; TASK_ROWS],
+    transfers: [TransferRow; TRANSFER_ROWS],
+    steps: [usize; TASK_ROWS],
     step_count: usize,
     ghost task_rows: { length tasks ≡ 128 },
     ghost transfer_rows: { length transfers ≡ 224 },

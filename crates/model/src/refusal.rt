@@ -1,9 +1,13 @@
 //! Why a call is turned down: one case for each cause, with its detail.
-ghost use Rattle.std.specs.Prelude.{◌≡◌};
-ghost use Rattle.model.specs.Refusals.{refusal_number, refusal_detail};
+ghost use Rattle.std.specs.Prelude.{◌≡◌, ℕ, Option};
+ghost use Rattle.model.specs.declared.refusal.Refusal.{Refusal};
+ghost use Rattle.model.specs.Refusals.{refusal_number, refusal_detail, first_refusal, refusal_of, RefusesBy};
+
+use std::error::Error;
+use std::fmt;
 
 /// Each cause has a number, and a detail that says where it was found.
-#[derive(Clone, Copy)]
+#[derive(Clone, Copy, Debug, PartialEq, Eq)]
 pub enum Refusal {
     /// A list is shorter or longer than its limits: its length.
     ListLength(usize),
@@ -40,51 +44,71 @@ pub enum Refusal {
 }
 
 impl Refusal {
+    /// The number of the cause, and where it was found; 0 where there is nothing to tell.
+    fn parts(&self) -> (u32, usize)
+        ensures number { result.0 ≡ refusal_number self.now }
+        ensures detail { result.1 ≡ refusal_detail self.now }
+    {
+        match *self {
+            Refusal::ListLength(length) => (1, length),
+            Refusal::ValueLimits(place) => (4, place),
+            Refusal::BadEdge(edge) => (6, edge),
+            Refusal::BadLink(link) => (7, link),
+            Refusal::NoMachine => (8, 0),
+            Refusal::BadRoute(pair) => (9, pair),
+            Refusal::NoSuchTask(task) => (11, task),
+            Refusal::NotAMachine(station) => (12, station),
+            Refusal::AlreadyPlaced(task) => (13, task),
+            Refusal::PredecessorUnplaced(task) => (14, task),
+            Refusal::NothingToTakeBack => (15, 0),
+            Refusal::NoRoute(edge) => (16, edge),
+            Refusal::NoRoom(needed) => (17, needed),
+            Refusal::NoStart(resource) => (18, resource),
+            Refusal::EveryMachineRefuses(task) => (19, task),
+            Refusal::NotInOrder => (20, 0),
+        }
+    }
+
     /// The number of the cause.
     pub fn number(&self) -> u32
         ensures { result ≡ refusal_number self.now }
     {
-        match *self {
-            Refusal::ListLength(_) => 1,
-            Refusal::ValueLimits(_) => 4,
-            Refusal::BadEdge(_) => 6,
-            Refusal::BadLink(_) => 7,
-            Refusal::NoMachine => 8,
-            Refusal::BadRoute(_) => 9,
-            Refusal::NoSuchTask(_) => 11,
-            Refusal::NotAMachine(_) => 12,
-            Refusal::AlreadyPlaced(_) => 13,
-            Refusal::PredecessorUnplaced(_) => 14,
-            Refusal::NothingToTakeBack => 15,
-            Refusal::NoRoute(_) => 16,
-            Refusal::NoRoom(_) => 17,
-            Refusal::NoStart(_) => 18,
-            Refusal::EveryMachineRefuses(_) => 19,
-            Refusal::NotInOrder => 20,
-        }
+        self.parts().0
     }
 
     /// Where the cause was found; 0 where there is nothing to tell.
     pub fn detail(&self) -> usize
         ensures { result ≡ refusal_detail self.now }
     {
-        match *self {
-            Refusal::ListLength(length) => length,
-            Refusal::ValueLimits(place) => place,
-            Refusal::BadEdge(edge) => edge,
-            Refusal::BadLink(link) => link,
-            Refusal::NoMachine => 0,
-            Refusal::BadRoute(pair) => pair,
-            Refusal::NoSuchTask(task) => task,
-            Refusal::NotAMachine(station) => station,
-            Refusal::AlreadyPlaced(task) => task,
-            Refusal::PredecessorUnplaced(task) => task,
-            Refusal::NothingToTakeBack => 0,
-            Refusal::NoRoute(edge) => edge,
-            Refusal::NoRoom(needed) => needed,
-            Refusal::NoStart(resource) => resource,
-            Refusal::EveryMachineRefuses(task) => task,
-            Refusal::NotInOrder => 0,
-        }
+        self.parts().1
     }
+}
+
+/// The number and the detail.
+impl fmt::Display for Refusal {
+    ghost use Rattle.std.specs.Prelude.{Some};
+    ghost use Rattle.model.specs.Refusals.{refusal_text};
+
+    ghost output = { λ r. Some (refusal_text r) };
+
+    fn fmt<W: fmt::Write>(&self, f: &mut fmt::Formatter<W>) -> fmt::Result {
+        let (number, detail) = self.parts();
+        write!(f, "{number} {detail}")
+    }
+}
+
+impl Error for Refusal {}
+
+/// The refusal of the first item that is refused; `test` is given each with its place.
+pub(crate) fn check_each<T, F: Fn(usize, &T) -> Result<(), Refusal>>(
+    items: &[T],
+    test: F,
+) -> Result<(), Refusal>
+    requires { F.IsAlwaysCallable test }
+    ensures { (refuse : ℕ → T → Option Refusal) → RefusesBy (F.post test) refuse → refusal_of result ≡ first_refusal refuse 0 items.now }
+{
+    for (place, item) in items.iter().enumerate() {
+        test(place, item)?;
+    }
+    Ok(())
 }

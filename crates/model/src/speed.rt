@@ -5,7 +5,7 @@ ghost use Rattle.model.specs.Lengths.{speed_ok, ticks, RoundedUp};
 use crate::tick::Tick;
 
 /// How much is done in one tick.
-#[derive(Clone, Copy)]
+#[derive(Clone, Copy, Debug, PartialEq, Eq)]
 pub struct Speed {
     pub rate: u32,
 }
@@ -15,22 +15,19 @@ impl Speed {
     pub fn is_within_limits(self) -> bool
         ensures { result ≡ speed_ok self }
     {
-        1 <= self.rate && self.rate <= 1000
+        (1..=1000).contains(&self.rate)
     }
 }
 
 /// How many ticks an amount takes at a speed, rounded up; at speed 0 there are none.
+#[tactic(auto, using(crate::proofs::Rounding::ticks_at_zero, crate::proofs::Rounding::ticks_ceil, crate::proofs::Rounding::rounded_ceil))]
 pub fn ticks(amount: u32, speed: Speed) -> Tick
     ensures value { result ≡ ticks amount speed }
     ensures fewest { 1 ≤ speed.rate → RoundedUp amount speed result }
 {
     if speed.rate == 0 {
-        return 0;
-    }
-    let whole = amount / speed.rate;
-    if amount % speed.rate == 0 {
-        whole
+        0
     } else {
-        whole + 1
+        amount.div_ceil(speed.rate)
     }
 }

@@ -1,25 +1,30 @@
 //! A set of station numbers.
-ghost use Rattle.std.specs.Prelude.{◌≡◌, ◌≤◌};
+ghost use Rattle.std.specs.Prelude.{◌≡◌, drop};
+ghost use Rattle.std.specs.List.{list_any};
 ghost use Rattle.model.specs.Stations.{no_stations, with_station, has_station, count_true, station_total, names_from};
 
+use crate::network::MOST_STATIONS;
+
 /// Which of the numbers 0 to 15 are in the set, and whether any greater number is.
-#[derive(Clone, Copy)]
+#[derive(Clone, Copy, Debug, PartialEq, Eq)]
 pub struct StationSet {
-    members: [bool; 16],
+    members: [bool; MOST_STATIONS],
     beyond: bool,
 }
 
 /// How many of the flags are set.
+#[tactic(auto, using(crate::proofs::Counts::true_by))]
 fn count_true(flags: &[bool]) -> usize
     ensures { result ≡ count_true flags.now }
 {
-    let mut count = 0;
-    for flag in flags {
-        if *flag {
-            count += 1;
-        }
-    }
-    count
+    flags.iter().filter(|flag| **flag).count()
+}
+
+/// Whether one of the flags from place `from` on is set.
+fn is_one_set(flags: &[bool], from: usize) -> bool
+    ensures { result ≡ list_any (λ b. b) (drop from flags.now) }
+{
+    flags.iter().skip(from).any(|flag| *flag)
 }
 
 impl StationSet {
@@ -28,7 +33,7 @@ impl StationSet {
         ensures { result ≡ no_stations }
     {
         StationSet {
-            members: [false; 16],
+            members: [false; MOST_STATIONS],
             beyond: false,
         }
     }
@@ -37,7 +42,7 @@ impl StationSet {
     pub fn insert(&mut self, station: usize)
         ensures { self.new ≡ with_station self.old station }
     {
-        if station < 16 {
+        if station < MOST_STATIONS {
             self.members[station] = true;
         } else {
             self.beyond = true;
@@ -48,7 +53,7 @@ impl StationSet {
     pub fn contains(&self, station: usize) -> bool
         ensures { result ≡ has_station self.now station }
     {
-        station < 16 && self.members[station]
+        station < MOST_STATIONS && self.members[station]
     }
 
     /// How many of the numbers 0 to 15 are in the set.
@@ -59,10 +64,10 @@ impl StationSet {
     }
 
     /// Whether the set has a number that is not below `limit`.
+    #[tactic(auto, using(crate::proofs::Counts::some_true))]
     pub(crate) fn names_from(&self, limit: usize) -> bool
-        requires { limit ≤ 16 }
         ensures { result ≡ names_from limit self.now }
     {
-        self.beyond || count_true(&self.members[limit..]) > 0
+        self.beyond || is_one_set(&self.members, limit)
     }
 }

@@ -108,9 +108,6 @@ module _ (ends : ℕ → Option End) where
       step rest None e = none_here low n _ e rest
       step rest (Some z) e = one_here low n z _ e rest
 
-ok_is : {A E : Type 0} (x y : A) → let B = Result A E in let l : B = Ok x in l ≡ Ok y → x ≡ y
-ok_is x y e = cc e
-
 from_some : (r : Result End Refusal) (x : End) → result_ok r ≡ Some x → r ≡ Ok x
 from_some (Ok y) x e = cc e
 from_some (Err d) x e = cc e

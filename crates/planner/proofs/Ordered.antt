@@ -68,9 +68,6 @@ unless_pass true b f = refl
 unless_pass false b f = f refl
 
 module _ (J : JobData) (N : NetData) (ρ : Ways) (P : PlanData) where
-  machine_read : (row : Option Placement) (p : Placement) → option_map_or (λ q. is_machine N q.station) row true ≡ true → row ≡ Some p → is_machine N p.station ≡ true
-  machine_read row p e is = ap (λ r. option_map_or (λ q. is_machine N q.station) r true) (sym is) ∙ e
-
   machine_pass : (row : Option Placement) → ((p : Placement) → row ≡ Some p → is_machine N p.station ≡ true) → option_map_or (λ q. is_machine N q.station) row true ≡ true
   machine_pass None each = refl
   machine_pass (Some p) each = each p refl

@@ -1,8 +1,9 @@
 -- What each step of a sift keeps, over the test `before` of an order.
-use Rattle.std.proofs.Common.{◌≡◌, ◌≢◌, ℕ, zero, suc, ◌+◌, ◌-◌, ◌*◌, ◌/◌, ◌<◌, ◌≤◌, Bool, true, false, List, length, get_or, take, sym, ◌∙◌, arith}
-use Rattle.std.specs.List.{SwappedAt}
+use Rattle.std.proofs.Common.{◌≡◌, ◌≢◌, ℕ, zero, suc, ◌+◌, ◌-◌, ◌*◌, ◌/◌, ◌<◌, ◌≤◌, Bool, true, false, List, length, get_or, take, Option, Some, None, IfSome, sym, arith}
+use Rattle.std.specs.List.{SwappedAt, slice_get}
 use Rattle.std.proofs.lemmas.List.{get_or-take, length-take}
 use Rattle.std.proofs.lemmas.List.Elements.{All-from_get_or}
+use Rattle.std.proofs.lemmas.Option.{get_or_from_slice_get, slice_get_within}
 use Rattle.queue.specs.Heaps.{IsHeap, IsFirstChild}
 use Rattle.queue.specs.Orders.{IsStrictTotalOrder, IsFirst}
 
@@ -38,9 +39,17 @@ module _ {X : Type 0} (before : X → X → Bool) where
   none_before_top o xs n d h zero k a b = grind (arith, o.asymmetric)
   none_before_top o xs n d h (suc bound) k a b = grind (arith, o.asymmetric, o.negatively_transitive, h ((k - 1) / 2) k d, none_before_top o xs n d h bound ((k - 1) / 2))
 
-  -- the first of the first n is the one at 0, where they are a heap
-  pub is_first_top : (o : IsStrictTotalOrder before) (xs : List X) (n : ℕ) (x : X) → 0 < n → n ≤ length xs → x ≡ get_or xs 0 x → IsHeap before xs n → IsFirst before (take n xs) x
-  is_first_top o xs n x z l e h = record {
-    held = (0, omega (arith, length-take n xs), get_or-take n xs 0 x z ∙ sym e);
-    none_before = All-from_get_or (λ y. before y x ≡ false) (take n xs) x (λ k p. grind (arith, none_before_top o xs n x h k k, length-take n xs, get_or-take n xs k x));
+  -- the first of a heap is the one at 0
+  pub is_first_top : (o : IsStrictTotalOrder before) (xs : List X) (x : X) → 0 < length xs → x ≡ get_or xs 0 x → IsHeap before xs (length xs) → IsFirst before xs x
+  is_first_top o xs x z e h = record {
+    held = (0, z, sym e);
+    none_before = All-from_get_or (λ y. before y x ≡ false) xs x (λ k p. grind (arith, none_before_top o xs (length xs) x h k k));
   }
+
+  pub is_heap_take : (xs : List X) (n : ℕ) → n ≤ length xs → IsHeap before xs n → IsHeap before (take n xs) (length (take n xs))
+  is_heap_take xs n l h = λ p k d a b e f. let long = length-take n xs in grind (arith, h p k d, get_or-take n xs k d, get_or-take n xs p d)
+
+  pub is_first_if_some : (o : IsStrictTotalOrder before) (xs : List X) (n : ℕ) (r : Option X) → n ≤ length xs → r ≡ slice_get (take n xs) 0 → IsHeap before xs n → IfSome r (IsFirst before (take n xs))
+  is_first_if_some o xs n None l e h = tt
+  is_first_if_some o xs n (Some x) l e h =
+      is_first_top o (take n xs) x (slice_get_within (take n xs) 0 x (sym e)) (sym (get_or_from_slice_get (take n xs) 0 x x (sym e))) (is_heap_take xs n l h)

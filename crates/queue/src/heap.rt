@@ -47,10 +47,7 @@ impl<'a, T: Rank> Queue<'a, T> {
         ensures first { IfSome result (IsFirst T.before (items self.now)) }
         ensures empty { IsNone result ↔ (items self.now ≡ []) }
     {
-        if self.is_empty() {
-            return None;
-        }
-        Some(self.slots[0])
+        self.slots[..self.len].first().copied()
     }
 
     /// Takes `x` in, or hands it back where the queue is full.
@@ -63,11 +60,12 @@ impl<'a, T: Rank> Queue<'a, T> {
         ensures room { room self.new ≡ room self.old }
     {
         let at = self.len;
+        // No `get_mut(at)`: its loan leaves unsaid that the slots before stay a heap.
         if at == self.slots.len() {
             return Err(x);
         }
         self.slots[at] = x;
-        sift_up(self.slots, at);
+        sift_up(&mut self.slots[..=at]);
         self.len = at + 1;
         Ok(())
     }
@@ -81,12 +79,9 @@ impl<'a, T: Rank> Queue<'a, T> {
         ensures unchanged { IfNone result (self.new ≡ self.old) }
         ensures room { room self.new ≡ room self.old }
     {
-        let len = self.len;
-        if len == 0 {
-            return None;
-        }
+        let last = self.len.checked_sub(1)?;
         // Before the slots are rearranged, since those that count are a heap at each write.
-        self.len = len - 1;
-        Some(take_first(self.slots, len))
+        self.len = last;
+        Some(take_first(&mut self.slots[..=last]))
     }
 }

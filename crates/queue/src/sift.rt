@@ -1,4 +1,4 @@
-//! Keeping the first elements of a slice a heap.
+//! Keeping a slice a heap.
 ghost use Rattle.std.specs.Prelude.{◌≡◌, ◌+◌, ◌-◌, ◌*◌, ◌<◌, ◌≤◌, ◌∷◌, length, take};
 ghost use Rattle.std.specs.List.Sorted.{IsPermutation};
 ghost use Rattle.queue.specs.Heaps.{IsHeap, IsHeapFrom, IsFirstChild};
@@ -6,67 +6,66 @@ ghost use Rattle.queue.specs.Orders.{IsFirst};
 
 use crate::rank::Rank;
 
-/// Moves the element at `at` up until it is not before its parent.
-pub fn sift_up<T: Rank>(slots: &mut [T], at: usize)
-    requires room { at < length slots.old }
-    requires heap { IsHeap T.before slots.old at }
-    ensures heap { IsHeap T.before slots.new (at + 1) }
-    ensures items { IsPermutation (take (at + 1) slots.old) (take (at + 1) slots.new) }
+/// Moves the last element up until it is not before its parent.
+pub fn sift_up<T: Rank>(heap: &mut [T])
+    requires some { 0 < length heap.old }
+    requires heap { IsHeap T.before heap.old (length heap.old - 1) }
+    ensures heap { IsHeap T.before heap.new (length heap.old) }
+    ensures items { IsPermutation heap.old heap.new }
 {
-    let mut i = at;
+    let mut i = heap.len() - 1;
+    // From child to parent, in steps that depend on the order: no range goes so.
     while i > 0 {
         let parent = (i - 1) / 2;
-        if !slots[i].precedes(&slots[parent]) {
+        if !heap[i].precedes(&heap[parent]) {
             return;
         }
-        slots.swap(parent, i);
+        heap.swap(parent, i);
         i = parent;
     }
 }
 
 /// Moves the element at 0 down until none of its children is before it.
-pub fn sift_down<T: Rank>(slots: &mut [T], len: usize)
-    requires room { len ≤ length slots.old }
-    requires heap { IsHeapFrom T.before 1 slots.old len }
-    ensures heap { IsHeap T.before slots.new len }
-    ensures items { IsPermutation (take len slots.old) (take len slots.new) }
+pub fn sift_down<T: Rank>(heap: &mut [T])
+    requires heap { IsHeapFrom T.before 1 heap.old (length heap.old) }
+    ensures heap { IsHeap T.before heap.new (length heap.old) }
+    ensures items { IsPermutation heap.old heap.new }
 {
     let mut i = 0;
-    while i < len / 2 {
-        let child = first_child(slots, i, len);
-        if !slots[child].precedes(&slots[i]) {
+    // From parent to first child.
+    while i < heap.len() / 2 {
+        let child = first_child(heap, i);
+        if !heap[child].precedes(&heap[i]) {
             return;
         }
-        slots.swap(i, child);
+        heap.swap(i, child);
         i = child;
     }
 }
 
-/// Gives the first element of a heap of `len`, and leaves the others as a heap of one less.
-pub fn take_first<T: Rank>(slots: &mut [T], len: usize) -> T
-    requires some { 0 < len }
-    requires room { len ≤ length slots.old }
-    requires heap { IsHeap T.before slots.old len }
-    ensures heap { IsHeap T.before slots.new (len - 1) }
-    ensures first { IsFirst T.before (take len slots.old) result }
-    ensures items { IsPermutation (take len slots.old) (result ∷ take (len - 1) slots.new) }
+/// Gives the first element of a heap, and leaves the others as a heap of one less.
+pub fn take_first<T: Rank>(heap: &mut [T]) -> T
+    requires some { 0 < length heap.old }
+    requires heap { IsHeap T.before heap.old (length heap.old) }
+    ensures heap { IsHeap T.before heap.new (length heap.old - 1) }
+    ensures first { IsFirst T.before heap.old result }
+    ensures items { IsPermutation heap.old (result ∷ take (length heap.old - 1) heap.new) }
 {
-    let last = len - 1;
-    let first = slots[0];
-    slots.swap(0, last);
-    sift_down(slots, last);
+    let last = heap.len() - 1;
+    let first = heap[0];
+    heap.swap(0, last);
+    sift_down(&mut heap[..last]);
     first
 }
 
 /// The child of `i` that no other child of it is before.
-fn first_child<T: Rank>(slots: &[T], i: usize, len: usize) -> usize
-    requires room { len ≤ length slots.now }
-    requires some { i * 2 + 1 < len }
-    ensures { IsFirstChild T.before slots.now i len result }
+fn first_child<T: Rank>(heap: &[T], i: usize) -> usize
+    requires some { i * 2 + 1 < length heap.now }
+    ensures { IsFirstChild T.before heap.now i (length heap.now) result }
 {
     let left = i * 2 + 1;
     let right = left + 1;
-    if right < len && slots[right].precedes(&slots[left]) {
+    if right < heap.len() && heap[right].precedes(&heap[left]) {
         right
     } else {
         left

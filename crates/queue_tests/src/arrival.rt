@@ -5,7 +5,7 @@ ghost use Rattle.queue_tests.specs.TotalOrders.{arrival_order};
 use queue::Rank;
 
 /// The earliest first, and at one tick the lowest edge.
-#[derive(Clone, Copy)]
+#[derive(Clone, Copy, PartialEq, Eq, PartialOrd, Ord)]
 pub struct Arrival {
     pub tick: u32,
     pub edge: u8,
@@ -17,6 +17,6 @@ impl Rank for Arrival {
     ghost order = { arrival_order };
 
     fn precedes(&self, other: &Arrival) -> bool {
-        self.tick < other.tick || (self.tick == other.tick && self.edge < other.edge)
+        self < other
     }
 }

@@ -2,6 +2,7 @@
 #![tactic(auto)]
 
 mod arrival;
+mod first;
 mod line;
 mod ready;
 mod ticks;

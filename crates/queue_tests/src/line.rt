@@ -4,19 +4,19 @@ ghost use Rattle.queue.specs.Items.{items};
 ghost use Rattle.queue.specs.Orders.{IsFirst};
 ghost use Rattle.queue_tests.specs.Orders.{waiting_before};
 
-use crate::waiting::{Length, Waiting};
+use crate::waiting::Waiting;
 use queue::{Queue, Rank};
 
 /// Stations in a line. The bound is repeated, since a field of a type with a parameter asks for it.
 #[derive(Drop)]
-pub struct Line<'a, V: Length>
+pub struct Line<'a, V: Rank>
 where
     Waiting<V>: Rank,
 {
     pub queue: Queue<'a, Waiting<V>>,
 }
 
-impl<'a, V: Length> Line<'a, V>
+impl<'a, V: Rank> Line<'a, V>
 where
     Waiting<V>: Rank,
 {
@@ -37,9 +37,9 @@ where
 }
 
 /// The next of a line: to a caller that knows the lengths, the order is theirs.
-pub fn next_in_line<V: Length>(line: &mut Line<V>) -> Option<Waiting<V>>
+pub fn next_in_line<V: Rank>(line: &mut Line<V>) -> Option<Waiting<V>>
     ensures { MatchOption result (items line.old.queue ≡ [])
-        (IsFirst (waiting_before V.below) (items line.old.queue)) }
+        (IsFirst (waiting_before V.before) (items line.old.queue)) }
 {
     line.next()
 }

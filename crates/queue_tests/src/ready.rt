@@ -4,7 +4,9 @@ ghost use Rattle.queue.specs.Orders.{IsFirst};
 ghost use Rattle.queue_tests.specs.Orders.{ready_before};
 ghost use Rattle.queue_tests.specs.TotalOrders.{ready_order};
 
-use queue::{Queue, Rank};
+use crate::first::first_of;
+use queue::Rank;
+use std::cmp::Reverse;
 
 /// The highest level first, and of one level the lowest task.
 #[derive(Clone, Copy)]
@@ -19,7 +21,7 @@ impl Rank for Ready {
     ghost order = { ready_order };
 
     fn precedes(&self, other: &Ready) -> bool {
-        other.level < self.level || (self.level == other.level && self.task < other.task)
+        (Reverse(self.level), self.task) < (Reverse(other.level), other.task)
     }
 }
 
@@ -28,11 +30,5 @@ pub fn highest(slots: &mut [Ready], tasks: &[Ready]) -> Option<Ready>
     ensures { length tasks.now ≤ length slots.old
         → MatchOption result (tasks.now ≡ []) (IsFirst ready_before tasks.now) }
 {
-    let mut queue = Queue::new(slots);
-    for task in tasks {
-        let Ok(()) = queue.push(*task) else {
-            return None;
-        };
-    }
-    queue.pop()
+    first_of(slots, tasks)
 }

@@ -2,20 +2,20 @@
 ghost use Rattle.queue_tests.specs.Orders.{ticks_below};
 ghost use Rattle.queue_tests.specs.TotalOrders.{ticks_order};
 
-use crate::waiting::Length;
+use queue::Rank;
 
 /// A length in whole ticks.
-#[derive(Clone, Copy)]
+#[derive(Clone, Copy, PartialEq, Eq, PartialOrd, Ord)]
 pub struct Ticks {
     pub count: u32,
 }
 
-impl Length for Ticks {
-    ghost below = { ticks_below };
+impl Rank for Ticks {
+    ghost before = { ticks_below };
 
     ghost order = { ticks_order };
 
-    fn is_below(&self, other: &Ticks) -> bool {
-        self.count < other.count
+    fn precedes(&self, other: &Ticks) -> bool {
+        self < other
     }
 }

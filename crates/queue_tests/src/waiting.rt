@@ -1,21 +1,11 @@
-//! Stations that wait, by lengths of any kind.
-ghost use Rattle.std.specs.Prelude.{◌≡◌, ◌≤◌, Bool, [], length, MatchOption};
-ghost use Rattle.queue.specs.Orders.{IsStrictTotalOrder, IsFirst};
+//! Stations that wait, by lengths of any type with an order.
+ghost use Rattle.std.specs.Prelude.{◌≡◌, ◌≤◌, [], length, MatchOption};
+ghost use Rattle.queue.specs.Orders.{IsFirst};
 ghost use Rattle.queue_tests.specs.Orders.{waiting_before};
 ghost use Rattle.queue_tests.specs.TotalOrders.{waiting_order};
 
-use queue::{Queue, Rank};
-
-/// A kind of length.
-pub trait Length: Copy {
-    /// Whether the first is the shorter.
-    ghost below: { Self → Self → Bool };
-
-    fn is_below(&self, other: &Self) -> bool
-        ensures { result ≡ below self.now other.now };
-
-    ghost order: { IsStrictTotalOrder below };
-}
+use crate::first::first_of;
+use queue::Rank;
 
 /// The shortest first, and of one length the lowest station.
 #[derive(Clone, Copy)]
@@ -24,27 +14,21 @@ pub struct Waiting<V> {
     pub station: u8,
 }
 
-impl<V: Length> Rank for Waiting<V> {
-    ghost before = { waiting_before V.below };
+impl<V: Rank> Rank for Waiting<V> {
+    ghost before = { waiting_before V.before };
 
-    ghost order = { waiting_order V.below V.order };
+    ghost order = { waiting_order V.before V.order };
 
     fn precedes(&self, other: &Waiting<V>) -> bool {
-        self.length.is_below(&other.length)
-            || (!other.length.is_below(&self.length) && self.station < other.station)
+        self.length.precedes(&other.length)
+            || (!other.length.precedes(&self.length) && self.station < other.station)
     }
 }
 
 /// The first of the stations, where there are slots for all.
-pub fn nearest<V: Length>(slots: &mut [Waiting<V>], stations: &[Waiting<V>]) -> Option<Waiting<V>>
+pub fn nearest<V: Rank>(slots: &mut [Waiting<V>], stations: &[Waiting<V>]) -> Option<Waiting<V>>
     ensures { length stations.now ≤ length slots.old
-        → MatchOption result (stations.now ≡ []) (IsFirst (waiting_before V.below) stations.now) }
+        → MatchOption result (stations.now ≡ []) (IsFirst (waiting_before V.before) stations.now) }
 {
-    let mut queue = Queue::new(slots);
-    for station in stations {
-        let Ok(()) = queue.push(*station) else {
-            return None;
-        };
-    }
-    queue.pop()
+    first_of(slots, stations)
 }

@@ -2,12 +2,10 @@
 use Rattle.std.proofs.Common.{◌≡◌, ℕ, zero, suc, ◌+◌, ◌<◌, ◌≤◌, true, List, [], ◌∷◌, length, get_or, drop, Some, None, Option, sym, refl, ap, ◌∙◌, ⊎_elim, add-one, arith}
 use Rattle.std.proofs.lemmas.List.{drop_more}
 use Rattle.std.proofs.lemmas.Option.{slice_get-get_or, slice_get_past}
-use Rattle.std.proofs.lemmas.Bool.{cases_lt, true≢false, and_parts}
+use Rattle.std.proofs.lemmas.Bool.{cases_lt, true≢false}
 use Rattle.std.specs.Option.{option_map}
 use Rattle.std.specs.List.{slice_get}
 use Rattle.model.specs.Data.{NetData, station_count, link_count, carries_over, carries_at}
-use Rattle.model.specs.NetworkLimits.{NetworkLimits}
-use Rattle.model.specs.declared.network.Link.{Link}
 use Rattle.model.proofs.Firsts.{some≢none}
 use Rattle.routes.specs.Hops.{hops_of, hop_at, reached}
 use Rattle.routes.specs.Laws.{SoundRoute, RouteLaws}
@@ -50,17 +48,6 @@ link_known N l a b e =
     ⊎_elim (λ h. h)
     (λ past. absurd (true≢false (sym e ∙ ap (λ o. carries_over o a b) (slice_get_past N.links l past))))
     (cases_lt l (link_count N))
-
--- and the stations that it carries between are the network's
-pub stations_known : (N : NetData) → NetworkLimits N.stations N.links → (l a b : ℕ) → carries_at N l a b ≡ true → (a < station_count N) × (b < station_count N)
-stations_known N limits l a b e = go (slice_get N.links l) refl e
-  where
-    go : (o : Option Link) → slice_get N.links l ≡ o → carries_over o a b ≡ true → (a < station_count N) × (b < station_count N)
-    go None at c = absurd (true≢false (sym c))
-    go (Some k) at c =
-        let known = (limits.each_link l k at).known in
-        let ends = and_parts _ _ c in
-        (known a (and_parts _ _ ends.0).1, known b ends.1)
 
 module _ (N : NetData) (ρ : ℕ → ℕ → Option (List Hop)) (laws : RouteLaws N ρ) where
   -- a route leads from a station of the network to a station of the network

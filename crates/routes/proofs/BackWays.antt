@@ -1,8 +1,8 @@
 -- Walking back from a settled station: each step leaves one hop fewer, and the hops before it are the same.
-use Rattle.std.proofs.Common.{◌≡◌, ℕ, zero, suc, ◌+◌, ◌<◌, ◌≤◌, Bool, List, [], ◌∷◌, ◌++◌, length, Some, None, refl, sym, ap, ◌∙◌, arith, get_or, ⊎_elim}
+use Rattle.std.proofs.Common.{◌≡◌, ℕ, zero, suc, ◌+◌, ◌<◌, ◌≤◌, Bool, List, [], ◌∷◌, ◌++◌, length, Some, None, Option, refl, sym, ap, ◌∙◌, arith, get_or, ⊎_elim}
 use Rattle.std.specs.Prelude.{◌==◌, nat_lt}
 use Rattle.std.proofs.lemmas.Bool.{cases_Bool, cond_both, cond-true, cond-false}
-use Rattle.std.specs.Option.{option_map}
+use Rattle.std.specs.Option.{MatchOption, option_map}
 use Rattle.std.specs.List.{slice_get, find}
 use Rattle.std.proofs.lemmas.List.{length_push}
 use Rattle.std.proofs.lemmas.Option.{none-some, slice_get_within, slice_get-get_or}
@@ -18,9 +18,12 @@ use Rattle.routes.specs.Search.{source, search_order, last_hop, hops_back, way_t
 use Rattle.routes.specs.Shown.Settling.{Settling}
 use Rattle.routes.specs.Shown.Turns.{settling}
 use Rattle.routes.specs.Shown.WaysBack.{way_more}
-use Rattle.routes.specs.declared.hop.Hop.{Hop}
 use Rattle.routes.specs.declared.settled.Settled.{Settled}
 use Rattle.std.proofs.lemmas.Option.{same_Some}
+
+pub slice_get_push : {A : Type 0} (xs : List A) (x : A) → slice_get (xs ++ x ∷ []) (length xs) ≡ Some x
+slice_get_push [] x = refl
+slice_get_push (y ∷ ys) x = slice_get_push ys x
 
 module _ {X : Type 0} (us : List (Settled X)) where
   -- the way has as many hops as are noted
@@ -41,11 +44,7 @@ module _ {X : Type 0} (us : List (Settled X)) where
       let long = way_long h o.origin.hops a.from o.origin refl o.there in
       ap (λ w. slice_get w o.origin.hops) (way_more us a o.origin o.there o.hops)
       ∙ ap (slice_get (way_to us o.origin ++ last_hop a ∷ [])) (sym long)
-      ∙ at_push (way_to us o.origin) (last_hop a)
-    where
-      at_push : (xs : List Hop) (x : Hop) → slice_get (xs ++ x ∷ []) (length xs) ≡ Some x
-      at_push [] x = refl
-      at_push (y ∷ ys) x = at_push ys x
+      ∙ slice_get_push (way_to us o.origin) (last_hop a)
 
   pub before_last : HasOrigins us → (k i : ℕ) (a : Settled X) (o : HasOrigin us a) → slice_get us k ≡ Some a → i < o.origin.hops → slice_get (way_to us a) i ≡ slice_get (way_to us o.origin) i
   before_last h k i a o at less =
@@ -102,3 +101,8 @@ module _ {X : Type 0} (before : X → X → Bool) (longer : X → Link → X) (N
   none_found s t found =
       let us = search_known before longer N start s in
       ap (λ o. option_map length (option_map (way_to us) o)) found ∙ ap (option_map length) (route_known s t)
+
+  -- what is read of the station that is found, if one is
+  pub length_read : (s t : ℕ) (o : Option (Settled X)) (r : Option ℕ) → o ≡ find (λ (u : Settled X). u.station == t) (search_known before longer N start s) → MatchOption o (r ≡ None) (λ a. r ≡ Some a.hops) → r ≡ option_map length (searched_route before longer N start s t)
+  length_read s t None r found is = is ∙ none_found s t found
+  length_read s t (Some a) r found is = is ∙ length_found s t a found

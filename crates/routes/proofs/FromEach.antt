@@ -1,5 +1,5 @@
 -- What stands at the row of a station: the search from it.
-use Rattle.std.proofs.Common.{◌≡◌, ℕ, ◌<◌, ◌≤◌, Bool, List, [], length, Some, vec_items, Vec, get_or, sym, ap, ◌∙◌, arith}
+use Rattle.std.proofs.Common.{◌≡◌, ℕ, ◌<◌, ◌≤◌, Bool, Bor, List, [], length, Some, None, Option, vec_items, Vec, get_or, sym, ap, ◌∙◌, arith}
 use Rattle.std.specs.List.{slice_get, range_with_len}
 use Rattle.std.proofs.lemmas.Bool.{cond-true, cond-false, lt-ltb, le-ltb}
 use Rattle.std.proofs.lemmas.List.{length-map}
@@ -12,7 +12,8 @@ use Rattle.routes.specs.Shown.Reading.{slice_get_range}
 use Rattle.routes.specs.Search.{search_order}
 use Rattle.routes.specs.Searched.{TellsSearch}
 use Rattle.routes.specs.declared.settled.Settled.{Settled}
-use Rattle.std.specs.Option.{option_map}
+use Rattle.std.specs.Option.{MatchOption, option_map}
+use Rattle.std.specs.Slice.{IsItemAt}
 
 module _ {X Y : Type 0} (before : X → X → Bool) (longer : X → Link → X) (start : X) (N : NetData) (rows : List (Vec (Settled X) Y)) (told : TellsSearch before longer start N rows) where
   as_many : length rows ≡ station_count N
@@ -35,3 +36,8 @@ module _ {X Y : Type 0} (before : X → X → Bool) (longer : X → Link → X) 
   unknown_row s past =
       let unknown : station_count N ≤ s = omega (arith, as_many) in
       sym (cond-false _ _ _ (le-ltb s (station_count N) unknown))
+
+  -- what is read there, if there is such a row
+  pub row_read : (s : ℕ) (o : Option (Bor (Vec (Settled X) Y))) (r : List (Settled X)) → IsItemAt rows s o → MatchOption o (r ≡ []) (λ v. r ≡ vec_items v.now) → r ≡ search_known before longer N start s
+  row_read s None r at is = is ∙ unknown_row s at.3
+  row_read s (Some v) r at is = is ∙ known_row s v.now at.3.0 at.1

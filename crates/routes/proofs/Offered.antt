@@ -1,6 +1,6 @@
 -- The ways on to one station more.
-use Rattle.std.proofs.Common.{◌≡◌, ℕ, zero, suc, ◌+◌, List, [], ◌∷◌, ◌++◌, sym, ap, ◌∙◌, subst, arith, add-one, zero-add, append_assoc, map}
-use Rattle.std.specs.Prelude.{Bool}
+use Rattle.std.proofs.Common.{◌≡◌, ℕ, zero, suc, ◌+◌, List, [], ◌∷◌, ◌++◌, refl, sym, ap, ◌∙◌, subst, arith, add-one, zero-add, append_assoc, map}
+use Rattle.std.specs.Prelude.{Bool, Result, Ok, Err, OnOk, IsErr}
 use Rattle.std.specs.List.{flat_map, range_with_len}
 use Rattle.std.specs.List.Sorted.{IsPermutation}
 use Rattle.std.proofs.lemmas.Grind.{flat_map-append}
@@ -35,6 +35,11 @@ module _ {X : Type 0} (before : X → X → Bool) (longer : X → Link → X) (N
       → IsPermutation (offers_below before longer N us u (t + 1) ++ q) s
   one_station_more t q r s first second =
       subst (λ ws. IsPermutation (ws ++ q) s) (sym (offers_more t)) (shuffled (offers_below before longer N us u t) (offer_to before longer N us u t) q r s first second)
+
+-- what a call that did not fail did
+pub unless_failed : {A E P : Type 0} (r : Result A E) → OnOk r P → (IsErr r → ⊥) → P
+unless_failed (Ok x) p fails = p
+unless_failed (Err e) p fails = absurd (fails refl)
 
 -- the same of each number, and of one number more
 pub map_range_more : {A : Type 0} (f : ℕ → A) (n : ℕ) → map f (range_with_len 0 (n + 1)) ≡ map f (range_with_len 0 n) ++ f n ∷ []

@@ -1,19 +1,14 @@
 -- What the table says of a pair, by the place of its row among the rows as they are held.
-use Rattle.std.proofs.Common.{◌≡◌, ℕ, zero, suc, ◌+◌, ◌*◌, ◌<◌, ◌≤◌, true, false, List, [], ◌∷◌, map, length, get_or, is_some, Some, None, vec_items, Option, Vec, sym, refl, ap, ◌∙◌, ⊎_elim, mul-le-mul_right, arith}
+use Rattle.std.proofs.Common.{◌≡◌, ℕ, zero, suc, ◌+◌, ◌*◌, ◌<◌, ◌≤◌, false, List, [], ◌∷◌, map, length, get_or, is_some, Some, None, vec_items, Option, Vec, sym, refl, ap, ◌∙◌, ⊎_elim}
 use Rattle.std.proofs.lemmas.Option.{slice_get-get_or, slice_get_past}
-use Rattle.std.proofs.lemmas.Bool.{cases_lt, cond-true, cond-false}
+use Rattle.std.proofs.lemmas.Bool.{cases_lt}
 use Rattle.std.specs.Option.{option_map}
 use Rattle.std.specs.List.{slice_get}
 use Rattle.model.specs.Data.{NetData, station_count}
-use Rattle.model.specs.declared.refusal.Refusal.TheVariants.{BadRoute}
 use Rattle.model.proofs.Firsts.{some≢none, none_from}
-use Rattle.routes.specs.Tables.{rows_of, row_at, keeps_law, is_kept, row_refusal, written_refusal, route_in, written_route}
+use Rattle.routes.specs.Tables.{rows_of, row_at, written_refusal, route_in, written_route}
 use Rattle.routes.specs.declared.hop.Hop.{Hop}
 use Rattle.routes.specs.Shown.Kept.{table_lawful, route_is}
-
--- the place of a row fits
-pub place_small : (n s t : ℕ) → n ≤ 16 → s < 16 → t < 16 → n * s + t < 256
-place_small n s t few s_few t_few = omega (arith, mul-le-mul_right {m = n} {n = 16} s few)
 
 nth_map : {X Y : Type 0} (f : X → Y) (xs : List X) (i : ℕ) → slice_get (map f xs) i ≡ option_map f (slice_get xs i)
 nth_map f [] i = refl
@@ -30,15 +25,6 @@ module _ {Y : Type 0} (N : NetData) (rows : List (Option (Vec Hop Y))) (s t i : 
 
   row_past : length rows ≤ i → row_at N lists s t ≡ None
   row_past past = ap (slice_get lists) (sym place) ∙ nth_map (option_map vec_items) rows i ∙ ap (option_map (option_map vec_items)) (slice_get_past rows i past)
-
-  pub row_kept : (x : Option (Vec Hop Y)) → i < length rows → x ≡ get_or rows i x → keeps_law N s t (option_map vec_items x) ≡ true → row_refusal N lists s t ≡ None
-  row_kept x inside is kept = cond-true _ _ _ (ap (is_kept N s t) (row_there x inside is) ∙ kept)
-
-  pub row_broken : (x : Option (Vec Hop Y)) → i < length rows → x ≡ get_or rows i x → keeps_law N s t (option_map vec_items x) ≡ false → row_refusal N lists s t ≡ Some (BadRoute (16 * s + t))
-  row_broken x inside is broken = cond-false _ _ _ (ap (is_kept N s t) (row_there x inside is) ∙ broken)
-
-  pub row_missing : length rows ≤ i → row_refusal N lists s t ≡ Some (BadRoute (16 * s + t))
-  row_missing past = cond-false _ _ _ (ap (is_kept N s t) (row_past past))
 
   -- a table that is refused nothing has a row for each pair of stations
   pub row_inside : is_some (written_refusal N lists) ≡ false → s < station_count N → t < station_count N → i < length rows

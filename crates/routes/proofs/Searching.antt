@@ -1,11 +1,11 @@
 -- What holds while the program searches: which ways wait in its queue, and that the first of them is the next to settle.
-use Rattle.std.proofs.Common.{◌≡◌, ℕ, zero, suc, ◌+◌, ◌-◌, ◌*◌, ◌<◌, ◌≤◌, Bool, true, false, List, [], ◌∷◌, ◌++◌, length, Some, refl, sym, ap, ◌∙◌, subst, ⊎_elim, arith, add-one, zero-add, get_or}
+use Rattle.std.proofs.Common.{◌≡◌, ℕ, zero, suc, ◌+◌, ◌-◌, ◌*◌, ◌<◌, ◌≤◌, Bool, true, false, List, [], ◌∷◌, ◌++◌, length, Some, refl, sym, ap, ◌∙◌, subst, ⊎_elim, arith, add-one, zero-add}
 use Rattle.std.specs.Prelude.{◌≢◌, ◌==◌, Contains}
 use Rattle.std.specs.Option.{option_to_list}
 use Rattle.std.specs.List.{slice_get}
 use Rattle.std.specs.List.Sorted.{IsPermutation}
 use Rattle.std.proofs.lemmas.Bool.{cases_lt, or_parts, eqb-false, true≢false}
-use Rattle.std.proofs.lemmas.Option.{same_Some, slice_get_within, slice_get-get_or}
+use Rattle.std.proofs.lemmas.Option.{same_Some, slice_get_within}
 use Rattle.std.proofs.lemmas.List.Elements.{All-contains, Contains-push_cases, Contains-append_cases, Contains-append_left, Contains-append_right}
 use Rattle.std.proofs.lemmas.List.Sorted.{Contains-permutation, length_permutation, IsPermutation-sym}
 use Rattle.std.proofs.lemmas.List.Folds.{list_any-append}
@@ -24,14 +24,11 @@ use Rattle.routes.specs.Shown.Distances.{reached_from}
 use Rattle.routes.specs.Shown.Ways.{next_best, last_hop_of, held_on}
 use Rattle.routes.specs.WayOrder.{way_before}
 use Rattle.routes.specs.Shown.WayOrders.{way_order}
-use Rattle.routes.specs.Offers.{offers, AllShort}
+use Rattle.routes.specs.Offers.{offers}
 use Rattle.routes.specs.declared.settled.Settled.{Settled}
 use Rattle.routes.proofs.Precedence.{not_below, not_before, not_lower}
+use Rattle.routes.proofs.BackWays.{slice_get_push}
 use Rattle.routes.proofs.BestWays.{offered_way, soonest}
-
-slice_get_push : {A : Type 0} (xs : List A) (x : A) → slice_get (xs ++ x ∷ []) (length xs) ≡ Some x
-slice_get_push [] x = refl
-slice_get_push (y ∷ ys) x = slice_get_push ys x
 
 module _ {X : Type 0} (before : X → X → Bool) (longer : X → Link → X) (N : NetData) (start : X) (s : ℕ) (order : IsStrictTotalOrder before) where
   -- w goes on from one of us, by one link, to a station of the network
@@ -272,12 +269,6 @@ module _ {X : Type 0} (before : X → X → Bool) (longer : X → Link → X) (N
       let above = shallow us p n a.from r.hop.origin (omega arith) r.leads.settled in
       omega (arith, r.hop.hops)
 
-  pub all_short : (us : List (Settled X)) → Settling before longer N start s us → s < station_count N → station_count N ≤ 16 → AllShort us
-  all_short us p known few k d less =
-      let deep = shallow us p k k (get_or us k d) (omega arith) (slice_get-get_or us k d less) in
-      let n = no_more before longer N start s us p known in
-      omega arith
-
   -- the source is settled first, and its ways on are put into the empty queue
   pub begins : (vs us q q2 : List (Settled X)) (a : Settled X) → vs ≡ [] → q ≡ [] → a ≡ source start s → us ≡ vs ++ a ∷ [] → IsPermutation (offers before longer N (vs ++ a ∷ []) (length vs, a) ++ q) q2 → length q2 ≤ length q + station_count N → station_count N ≤ 16 → Searching us q2 (length us)
   begins vs us q q2 a none empty first is parts more few =
@@ -300,7 +291,9 @@ module _ {X : Type 0} (before : X → X → Bool) (longer : X → Link → X) (N
       let p = pushed us q q1 w h first parts fresh in
       omega (arith, no_more before longer N start s (us ++ w ∷ []) (settles (us ++ w ∷ []) q1 (length us) p) known, length_push us w)
 
-  -- and no way has more hops than the 16 stations allow
-  pub short_with : (us q q1 : List (Settled X)) (w : Settled X) → Searching us q (length us) → IsFirst (way_before before) q w → IsPermutation q (w ∷ q1) → is_settled us w.station ≡ false → s < station_count N → station_count N ≤ 16 → AllShort (us ++ w ∷ [])
+  -- and the way has fewer hops than the 16 stations allow
+  pub short_with : (us q q1 : List (Settled X)) (w : Settled X) → Searching us q (length us) → IsFirst (way_before before) q w → IsPermutation q (w ∷ q1) → is_settled us w.station ≡ false → s < station_count N → station_count N ≤ 16 → w.hops < 16
   short_with us q q1 w h first parts fresh known few =
-      all_short (us ++ w ∷ []) (settles (us ++ w ∷ []) q1 (length us) (pushed us q q1 w h first parts fresh)) known few
+      let p = settles (us ++ w ∷ []) q1 (length us) (pushed us q q1 w h first parts fresh) in
+      let deep = shallow (us ++ w ∷ []) p (length us) (length us) w (omega arith) (slice_get_push us w) in
+      omega (arith, no_more before longer N start s (us ++ w ∷ []) p known, length_push us w)

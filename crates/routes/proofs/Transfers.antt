@@ -1,7 +1,8 @@
 -- A transfer's booking on hop k, from the hop and the start; and how many there are.
 use Rattle.std.proofs.Common.{◌≡◌, ℕ, zero, suc, ◌+◌, min, eqb, List, [], ◌∷◌, length, Some, None, Option, sym, refl, ap, ◌∙◌, ap₂, arith}
 use Rattle.std.proofs.lemmas.Bool.{cond-false, ne_eqb}
-use Rattle.std.specs.Option.{option_map}
+use Rattle.std.specs.Option.{MatchOption, option_map}
+use Rattle.std.proofs.lemmas.Option.{MatchOption-at_none}
 use Rattle.std.specs.List.{slice_get}
 use Rattle.model.specs.Data.{JobData, NetData, transfer_length}
 use Rattle.model.specs.Plans.{PlanData, task_row, starts}
@@ -88,3 +89,13 @@ way_count N v (Some hs) ss n e = let same : n ≡ length hs = cc in omega (arith
 
 pub edge_count : (J : JobData) (N : NetData) (ρ : Ways) (P : PlanData) (i : ℕ) (e : Edge) (n : ℕ) → Some e ≡ slice_get J.edges i → Some n ≡ option_map length (way ρ P e) → length (legs J N ρ P i) ≡ min n (length (starts P i))
 edge_count J N ρ P i e n a b = ap (λ o. length (legs_at N ρ P i o)) (sym a) ∙ way_count N e.volume (way ρ P e) (starts P i) n b
+
+-- the same of an edge and a length that may not be there
+pub legs_counted : (J : JobData) (N : NetData) (ρ : Ways) (P : PlanData) (i : ℕ) (e : Option Edge) (n : Option ℕ) (r : ℕ) → e ≡ slice_get J.edges i → MatchOption e (n ≡ None) (λ d. n ≡ option_map length (way ρ P d)) → MatchOption n (r ≡ 0) (λ m. r ≡ min m (length (starts P i))) → r ≡ length (legs J N ρ P i)
+legs_counted J N ρ P i None n r a b c = MatchOption-at_none _ _ b c ∙ ap (λ o. length (legs_at N ρ P i o)) a
+legs_counted J N ρ P i (Some e) None r a b c = c ∙ sym (ap (λ w. length (legs_along N e.volume w (starts P i))) (is_none (way ρ P e) b)) ∙ ap (λ o. length (legs_at N ρ P i o)) a
+  where
+    is_none : (w : Option (List Hop)) → None ≡ option_map length w → w ≡ None
+    is_none None h = refl
+    is_none (Some hs) h = absurd (some≢none (sym h))
+legs_counted J N ρ P i (Some e) (Some n) r a b c = c ∙ sym (edge_count J N ρ P i e n a b)

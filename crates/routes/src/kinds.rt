@@ -1,4 +1,5 @@
 //! The two kinds of length: how many hops a way has, and how slow its links are.
+//! They are two types, each with a field of its own name, which the definitions of the two kinds read.
 use crate::length::Length;
 use model::Link;
 use model::speed::ticks;

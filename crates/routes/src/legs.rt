@@ -7,6 +7,7 @@ ghost use Rattle.model.specs.Plans.{plan_of};
 ghost use Rattle.routes.specs.Legs.{legs, way};
 
 use crate::interface::Routes;
+use model::network::MOST_STATIONS;
 use model::plan::measures::transfer_length;
 use model::{Booking, Edge, Job, Plan};
 
@@ -24,7 +25,7 @@ pub fn leg<R: Routes>(routes: &R, job: &Job, plan: &Plan, i: usize, k: usize) ->
     let start = plan.start(i, k)?;
     let length = transfer_length(routes.network(), edge.volume, hop.link);
     Some(Booking {
-        resource: 16 + hop.link,
+        resource: MOST_STATIONS + hop.link,
         start,
         length,
     })
@@ -35,30 +36,20 @@ pub fn leg<R: Routes>(routes: &R, job: &Job, plan: &Plan, i: usize, k: usize) ->
 pub fn way_length<R: Routes>(routes: &R, plan: &Plan, edge: Edge) -> Option<usize>
     ensures { result ≡ option_map length (way (R.Routes.route routes.now) (plan_of plan.now) edge) }
 {
-    match plan.task(edge.from) {
-        Some(p) => match plan.task(edge.to) {
-            Some(q) => {
-                if p.station == q.station {
-                    Some(0)
-                } else {
-                    routes.route_length(p.station, q.station)
-                }
-            }
-            None => Some(0),
-        },
-        None => Some(0),
+    let (Some(p), Some(q)) = (plan.task(edge.from), plan.task(edge.to)) else {
+        return Some(0);
+    };
+    if p.station == q.station {
+        return Some(0);
     }
+    routes.route_length(p.station, q.station)
 }
 
 /// How many legs edge `i` has.
 pub fn leg_count<R: Routes>(routes: &R, job: &Job, plan: &Plan, i: usize) -> usize
     ensures { result ≡ length (legs (job_of job.now) (net_of (R.Routes.over routes.now)) (R.Routes.route routes.now) (plan_of plan.now) i) }
 {
-    match job.edge(i) {
-        Some(e) => match way_length(routes, plan, e) {
-            Some(n) => n.min(plan.start_count(i)),
-            None => 0,
-        },
-        None => 0,
-    }
+    job.edge(i)
+        .and_then(|e| way_length(routes, plan, e))
+        .map_or(0, |n| n.min(plan.start_count(i)))
 }

@@ -15,5 +15,6 @@ pub use hop::Hop;
 pub use interface::Routes;
 pub use kinds::{HopCount, Slowness};
 pub use length::Length;
+pub use searched::SearchedRoutes;
 pub use settled::Settled;
 pub use written::WrittenRoutes;

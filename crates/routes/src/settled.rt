@@ -40,19 +40,11 @@ impl<L: Length> Settled<L> {
 fn is_lower<L: Length>(a: &Settled<L>, b: &Settled<L>) -> bool
     ensures { result ≡ lower_way a.now b.now }
 {
-    if a.station != b.station {
-        return a.station < b.station;
-    }
-    if a.from != b.from {
-        return a.from < b.from;
-    }
-    if a.link != b.link {
-        return a.link < b.link;
-    }
-    a.hops < b.hops
+    (a.station, a.from, a.link, a.hops) < (b.station, b.from, b.link, b.hops)
 }
 
 /// The better length first; of equal ones the lower station, then the one settled from first, then the lower link.
+/// The order is not that of `Ord`, by which values may be equal and yet differ.
 impl<L: Length> Rank for Settled<L> {
     ghost before = { way_before L.before };
 

@@ -5,11 +5,13 @@ ghost use Rattle.routes.specs.Walks.{is_walk, uses, is_fresh, is_route};
 
 use crate::hop::Hop;
 use model::Network;
+use model::plan::MOST_HOPS;
 
 /// Whether each hop's link carries from the station left to the one reached, and the last hop reaches `to`.
 fn is_walk(network: &Network, from: usize, to: usize, hops: &[Hop]) -> bool
     ensures { result ≡ is_walk (net_of network.now) from to hops.now }
 {
+    // A loop, not `try_fold`, by which an `Option` of the station would be carried on and compared with `Some(to)`.
     let mut here = from;
     for hop in hops {
         if !network.carries(hop.link, here, hop.station) {
@@ -24,18 +26,14 @@ fn is_walk(network: &Network, from: usize, to: usize, hops: &[Hop]) -> bool
 fn uses(link: usize, hops: &[Hop]) -> bool
     ensures { result ≡ uses link hops.now }
 {
-    for hop in hops {
-        if hop.link == link {
-            return true;
-        }
-    }
-    false
+    hops.iter().any(|hop| hop.link == link)
 }
 
 /// Whether no two of `hops` are over the same link.
 fn is_fresh(hops: &[Hop]) -> bool
     ensures { result ≡ is_fresh hops.now }
 {
+    // A loop, not `all`: its closure would have to say that the later hops begin within the slice.
     for (i, hop) in hops.iter().enumerate() {
         if uses(hop.link, &hops[i + 1..]) {
             return false;
@@ -48,5 +46,5 @@ fn is_fresh(hops: &[Hop]) -> bool
 pub(crate) fn is_route(network: &Network, from: usize, to: usize, hops: &[Hop]) -> bool
     ensures { result ≡ is_route (net_of network.now) from to hops.now }
 {
-    !hops.is_empty() && hops.len() <= 15 && is_walk(network, from, to, hops) && is_fresh(hops)
+    (1..=MOST_HOPS).contains(&hops.len()) && is_walk(network, from, to, hops) && is_fresh(hops)
 }

@@ -18,9 +18,7 @@ pub fn walked<R: Routes>(routes: &R, from: usize, to: usize) -> Option<usize>
     let count = routes.route_length(from, to)?;
     let mut here = from;
     for i in 0..count {
-        if let Some(hop) = routes.hop(from, to, i) {
-            here = hop.station;
-        }
+        here = routes.hop(from, to, i)?.station;
     }
     Some(here)
 }

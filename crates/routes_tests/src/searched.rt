@@ -2,8 +2,7 @@
 //! best first, the lowest number among equals, and a station's last hop comes from the first settled one that offers its
 //! best length, over the lowest-numbered such link.
 use model::{Link, Network, Speed, Station, StationSet};
-use routes::searched::SearchedRoutes;
-use routes::{Length, Routes};
+use routes::{Length, Routes, SearchedRoutes};
 use std::alloc::{AllocError, Global};
 use std::process::Abort;
 use std::test::Fail;
@@ -40,11 +39,12 @@ impl Shape<'_> {
         let machine = Station::Machine(Speed { rate: 1 });
         let mut stations = vec![in alloc; Station::Switch; self.switches]?;
         stations.resize(self.switches.saturating_add(self.machines), machine)?;
-        let mut links = Vec::new(alloc);
-        for (stations, rate) in self.links {
-            links.push(link(stations, *rate))?;
-        }
-        Network::new(stations, links).map_err(|refusal| Fail::new(refusal.number()))
+        let links = self
+            .links
+            .iter()
+            .map(|(stations, rate)| link(stations, *rate))
+            .collect(alloc)?;
+        Ok(Network::new(stations, links)?)
     }
 
     /// Searches the network by the kind of length `L`, and compares what is answered with these ways.
@@ -73,11 +73,8 @@ fn hops<R: Routes>(
     from: usize,
     to: usize,
 ) -> Result<Vec<(usize, usize)>, AllocError> {
-    let mut hops = Vec::new(alloc);
-    for i in 0..16 {
-        if let Some(hop) = routes.hop(from, to, i) {
-            hops.push((hop.link, hop.station))?;
-        }
-    }
-    Ok(hops)
+    (0..16)
+        .filter_map(|i| routes.hop(from, to, i))
+        .map(|hop| (hop.link, hop.station))
+        .collect(alloc)
 }

@@ -5,83 +5,44 @@ use routes::{Hop, Routes, WrittenRoutes};
 use std::alloc::{AllocError, Global};
 use std::test::Fail;
 
-/// A row of a table: the first `count` of `hops`, or no route.
-#[derive(Clone, Copy)]
-enum Row {
-    NoRoute,
-    Hops { count: usize, hops: [Hop; 3] },
-}
+/// A row of a table, if there is a route: its links, each with the station it leads to.
+type Row<'a> = Option<&'a [(usize, usize)]>;
 
-const STAY: Row = Row::Hops {
-    count: 0,
-    hops: [Hop {
-        link: 0,
-        station: 0,
-    }; 3],
-};
+/// The row from a station to itself.
+const STAY: Row = Some(&[]);
 
-/// What a maker made; a refusal fails the test.
-fn made<T>(res: Result<T, Refusal>) -> Result<T, Fail> {
-    match res {
-        Ok(value) => Ok(value),
-        Err(refusal) => Err(Fail::new(refusal.number())),
-    }
-}
-
-fn hop(link: usize, station: usize) -> Hop {
-    Hop { link, station }
-}
-
-fn one(a: Hop) -> Row {
-    Row::Hops {
-        count: 1,
-        hops: [a; 3],
-    }
-}
-
-fn two(a: Hop, b: Hop) -> Row {
-    Row::Hops {
-        count: 2,
-        hops: [a, b, b],
-    }
-}
-
-fn three(a: Hop, b: Hop, c: Hop) -> Row {
-    Row::Hops {
-        count: 3,
-        hops: [a, b, c],
-    }
-}
+/// A route for each pair on the line, but for 1 to 2, and a row that is not read.
+const LINE_ROWS: [Row; 10] = [
+    STAY,
+    Some(&[(0, 1)]),
+    Some(&[(0, 1), (1, 2)]),
+    Some(&[(0, 0)]),
+    STAY,
+    None,
+    Some(&[(1, 1), (0, 0)]),
+    Some(&[(1, 1)]),
+    STAY,
+    Some(&[(9, 9)]),
+];
 
 fn hop_list(heap: Global, row: Row) -> Result<Option<Vec<Hop>>, AllocError> {
-    match row {
-        Row::NoRoute => Ok(None),
-        Row::Hops { count, hops } => Ok(Some(Vec::from_slice(heap, &hops[..count.min(3)])?)),
-    }
+    let Some(hops) = row else {
+        return Ok(None);
+    };
+    let hops = hops
+        .iter()
+        .map(|(link, station)| Hop {
+            link: *link,
+            station: *station,
+        })
+        .collect(heap)?;
+    Ok(Some(hops))
 }
 
 fn table(heap: Global, rows: &[Row]) -> Result<Vec<Option<Vec<Hop>>>, AllocError> {
-    let mut table = Vec::new(heap);
-    for row in rows {
-        table.push(hop_list(heap, *row)?)?;
-    }
-    Ok(table)
-}
-
-/// A route for each pair on the line, but for 1 to 2, and a row that is not read.
-fn line_rows() -> [Row; 10] {
-    [
-        STAY,
-        one(hop(0, 1)),
-        two(hop(0, 1), hop(1, 2)),
-        one(hop(0, 0)),
-        STAY,
-        Row::NoRoute,
-        two(hop(1, 1), hop(0, 0)),
-        one(hop(1, 1)),
-        STAY,
-        one(hop(9, 9)),
-    ]
+    rows.iter()
+        .map(|row| hop_list(heap, *row))
+        .try_collect(heap)
 }
 
 fn link(a: usize, b: usize) -> Link {
@@ -98,29 +59,24 @@ fn link(a: usize, b: usize) -> Link {
 fn network(heap: Global, count: usize) -> Result<Network, Fail> {
     let machine = Station::Machine(Speed { rate: 5 });
     let stations = vec![in heap; machine, Station::Switch, machine]?;
-    let mut links = Vec::new(heap);
-    for _ in 0..count {
-        links.push(link(0, 1))?;
-    }
+    let mut links = vec![in heap; link(0, 1); count]?;
     links.push(link(1, 2))?;
-    made(Network::new(stations, links))
+    Ok(Network::new(stations, links)?)
 }
 
-/// The number and the detail of a refusal; 0 and 0 where there is none.
-fn outcome(made: Result<WrittenRoutes, Refusal>) -> (u32, usize) {
-    match made {
-        Ok(_) => (0, 0),
-        Err(refusal) => (refusal.number(), refusal.detail()),
-    }
+/// The number and the detail of the refusal, if there is one.
+fn refused(made: Result<WrittenRoutes, Refusal>) -> Option<(u32, usize)> {
+    made.err()
+        .map(|refusal| (refusal.number(), refusal.detail()))
 }
 
 /// What is answered to these rows on the line.
-fn answer(heap: Global, rows: &[Row]) -> Result<(u32, usize), Fail> {
-    Ok(outcome(WrittenRoutes::new(network(heap, 1)?, table(heap, rows)?)))
+fn answer(heap: Global, rows: &[Row]) -> Result<Option<(u32, usize)>, Fail> {
+    Ok(refused(WrittenRoutes::new(network(heap, 1)?, table(heap, rows)?)))
 }
 
 fn line_routes(heap: Global) -> Result<WrittenRoutes, Fail> {
-    made(WrittenRoutes::new(network(heap, 1)?, table(heap, &line_rows())?))
+    Ok(WrittenRoutes::new(network(heap, 1)?, table(heap, &LINE_ROWS)?)?)
 }
 
 #[test]
@@ -139,39 +95,47 @@ fn lengths(rt: HostRuntime) -> Result<(), Fail> {
 #[test]
 fn hops(rt: HostRuntime) -> Result<(), Fail> {
     let routes = line_routes(rt.alloc())?;
-    let first = routes.hop(0, 2, 0).ok_or("no hop 0")?;
-    assert!(rt; first.link == 0 && first.station == 1);
-    let second = routes.hop(2, 0, 1).ok_or("no hop 1")?;
-    assert!(rt; second.link == 0 && second.station == 0);
-    assert!(rt; routes.hop(0, 2, 2).is_none());
-    assert!(rt; routes.hop(1, 2, 0).is_none());
-    assert!(rt; routes.hop(0, 3, 0).is_none());
+    let first = Hop {
+        link: 0,
+        station: 1,
+    };
+    let second = Hop {
+        link: 0,
+        station: 0,
+    };
+    assert_eq!(rt; routes.hop(0, 2, 0), Some(first));
+    assert_eq!(rt; routes.hop(2, 0, 1), Some(second));
+    assert_eq!(rt; routes.hop(0, 2, 2), None);
+    assert_eq!(rt; routes.hop(1, 2, 0), None);
+    assert_eq!(rt; routes.hop(0, 3, 0), None);
     Ok(())
 }
 
 #[test]
 fn missing_rows(rt: HostRuntime) -> Result<(), Fail> {
-    let rows = line_rows();
-    assert_eq!(rt; answer(rt.alloc(), &rows[..7])?, (9, 33));
-    assert_eq!(rt; answer(rt.alloc(), &[STAY, Row::NoRoute])?, (9, 2));
+    assert_eq!(rt; answer(rt.alloc(), &LINE_ROWS[..7])?, Some((9, 33)));
+    assert_eq!(rt; answer(rt.alloc(), &[STAY, None])?, Some((9, 2)));
     Ok(())
 }
 
 #[test]
 fn rows_to_itself(rt: HostRuntime) -> Result<(), Fail> {
-    assert_eq!(rt; answer(rt.alloc(), &[Row::NoRoute])?, (9, 0));
-    assert_eq!(rt; answer(rt.alloc(), &[two(hop(0, 1), hop(0, 0))])?, (9, 0));
+    assert_eq!(rt; answer(rt.alloc(), &[None])?, Some((9, 0)));
+    assert_eq!(rt;
+        answer(rt.alloc(), &[Some(&[(0, 1), (0, 0)])])?,
+        Some((9, 0))
+    );
     Ok(())
 }
 
 #[test]
 fn rows_to_another(rt: HostRuntime) -> Result<(), Fail> {
     let empty = STAY;
-    let ends_elsewhere = two(hop(0, 1), hop(1, 2));
-    let does_not_join = one(hop(1, 1));
-    let no_such_link = one(hop(7, 1));
-    let stays = two(hop(0, 1), hop(1, 1));
-    let link_twice = three(hop(0, 1), hop(0, 0), hop(0, 1));
+    let ends_elsewhere: Row = Some(&[(0, 1), (1, 2)]);
+    let does_not_join: Row = Some(&[(1, 1)]);
+    let no_such_link: Row = Some(&[(7, 1)]);
+    let stays: Row = Some(&[(0, 1), (1, 1)]);
+    let link_twice: Row = Some(&[(0, 1), (0, 0), (0, 1)]);
     for row in [
         empty,
         ends_elsewhere,
@@ -180,18 +144,23 @@ fn rows_to_another(rt: HostRuntime) -> Result<(), Fail> {
         stays,
         link_twice,
     ] {
-        assert_eq!(rt; answer(rt.alloc(), &[STAY, row])?, (9, 1));
+        assert_eq!(rt; answer(rt.alloc(), &[STAY, row])?, Some((9, 1)));
     }
     Ok(())
 }
 
 /// From 0 to 1 and back and so on over the links 0 to 14, and then over link 15 to 2, cut after `count` hops.
 fn zigzag(heap: Global, count: usize) -> Result<Option<Vec<Hop>>, AllocError> {
-    let mut hops = Vec::new(heap);
-    for l in 0..15 {
-        hops.push(hop(l, (l + 1) % 2))?;
-    }
-    hops.push(hop(15, 2))?;
+    let mut hops: Vec<Hop> = (0..15)
+        .map(|link| Hop {
+            link,
+            station: (link + 1) % 2,
+        })
+        .collect(heap)?;
+    hops.push(Hop {
+        link: 15,
+        station: 2,
+    })?;
     hops.truncate(count);
     Ok(Some(hops))
 }
@@ -202,8 +171,8 @@ fn sixteen_hops(rt: HostRuntime) -> Result<(), Fail> {
     rows.push(zigzag(rt.alloc(), 15)?)?;
     rows.push(zigzag(rt.alloc(), 16)?)?;
     assert_eq!(rt;
-        outcome(WrittenRoutes::new(network(rt.alloc(), 15)?, rows)),
-        (9, 2)
+        refused(WrittenRoutes::new(network(rt.alloc(), 15)?, rows)),
+        Some((9, 2))
     );
     Ok(())
 }

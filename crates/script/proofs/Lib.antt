@@ -8,6 +8,7 @@ pub mod Spaced
 pub mod ReadsBack
 pub mod Unlined
 pub mod Answering
-pub mod Counted
-pub mod Routing
+pub mod Named
+pub mod Drained
+pub mod Stated
 mod EarlierForms

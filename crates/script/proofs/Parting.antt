@@ -1,7 +1,8 @@
 -- The first word of some bytes, and the words that follow it.
-use Rattle.std.proofs.Common.{◌≡◌, ℕ, ◌<◌, List, [], ◌∷◌, ◌++◌, take, drop, refl, arith}
+use Rattle.std.proofs.Common.{◌≡◌, ℕ, ◌+◌, ◌<◌, ◌≤◌, List, [], ◌∷◌, ◌++◌, length, take, drop, refl, arith}
 use Rattle.std.specs.List.{prefix_len}
 use Rattle.std.proofs.lemmas.Grind.{common_steps}
+use Rattle.std.proofs.lemmas.List.{length_push}
 use Rattle.script.proofs.Runs.{run}
 use Rattle.script.specs.Words.{blank, solid, uncommented, other_than, ended, words_after, words_of}
 
@@ -33,3 +34,15 @@ no_word bs none = grind (arith, words_past_blanks bs, all_blank bs)
 
 pub first_word : (bs : List ℕ) → 0 < prefix_len solid (past_blanks bs) → words_of bs ≡ take (prefix_len solid (past_blanks bs)) (past_blanks bs) ∷ words_of (drop (prefix_len solid (past_blanks bs)) (past_blanks bs))
 first_word bs some = grind (arith, common_steps, words_past_blanks bs, words_past_solids [] (past_blanks bs))
+
+few_ended : (w : List ℕ) → length (ended w []) ≤ length w
+few_ended [] = omega arith
+few_ended (b ∷ w) = omega arith
+
+few_after : (w bs : List ℕ) → length (words_after w bs) ≤ length w + length bs
+few_after w [] = omega (arith, few_ended w)
+few_after w (b ∷ bs) = grind (arith, few_after [] bs, few_after (w ++ b ∷ []) bs, length_push w b)
+
+-- a text has no more words than bytes
+pub few_words : (bs : List ℕ) → length (words_of bs) ≤ length bs
+few_words bs = omega (arith, few_after [] bs)

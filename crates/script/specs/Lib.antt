@@ -1,6 +1,7 @@
 pub mod Words
 pub mod Lines
 pub mod Number
+pub mod Left
 pub mod Spelling
 pub mod Tell
 pub mod Data

@@ -2,6 +2,7 @@
 use Rattle.std.specs.Prelude.{◌≡◌, ℕ, ◌<◌, Bool, if◌then◌else◌, not, ◌||◌, List, [], ◌∷◌, ◌++◌, length, Some, None, Option, ◌==◌}
 use Rattle.std.specs.Borrow.{Bor}
 use Rattle.std.specs.Str.{bytes_eq}
+use Rattle.script.specs.declared.words.Words.{Words}
 
 -- a space, a tab or a carriage return
 abbrev pub blank : ℕ → Bool
@@ -44,3 +45,6 @@ named (entry ∷ table) w = if same_word w entry.0 then Some entry.1 else named 
 abbrev pub Parted : Option (Bor (List ℕ) × Bor (List ℕ)) → List ℕ → Type 0
 Parted None bs = words_of bs ≡ []
 Parted (Some p) bs = (words_of bs ≡ p.0.now ∷ words_of p.1.now) × (length p.1.now < length bs)
+
+abbrev pub words_left : Words → List (List ℕ)
+words_left w = words_of w.rest.now

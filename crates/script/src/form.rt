@@ -1,8 +1,10 @@
 //! The first word of a line whose other words are numbers.
 ghost use Rattle.std.specs.Prelude.{◌≡◌};
+ghost use Rattle.std.specs.Option.{ok_or};
 ghost use Rattle.script.specs.Form.{form_named};
+ghost use Rattle.script.specs.declared.error.LineError.TheVariants.{NotUnderstood};
 
-use crate::words::same_word;
+use crate::error::LineError;
 
 /// What the numbers of a line are for.
 #[derive(Clone, Copy, Debug, PartialEq, Eq)]
@@ -20,33 +22,27 @@ pub enum Form {
     Mark,
 }
 
-/// The form that `word` names.
-pub fn form_of(word: &[u8]) -> Option<Form>
-    ensures { result ≡ form_named word.now }
-{
-    if same_word(word, b"task") {
-        Some(Form::Task)
-    } else if same_word(word, b"edge") {
-        Some(Form::Edge)
-    } else if same_word(word, b"machine") {
-        Some(Form::Machine)
-    } else if same_word(word, b"switch") {
-        Some(Form::Switch)
-    } else if same_word(word, b"link") {
-        Some(Form::Link)
-    } else if same_word(word, b"route") {
-        Some(Form::Route)
-    } else if same_word(word, b"bookings") {
-        Some(Form::Bookings)
-    } else if same_word(word, b"answer") {
-        Some(Form::Answer)
-    } else if same_word(word, b"row") {
-        Some(Form::Row)
-    } else if same_word(word, b"starts") {
-        Some(Form::Starts)
-    } else if same_word(word, b"mark") {
-        Some(Form::Mark)
-    } else {
-        None
+/// The form that a word names.
+impl TryFrom<&[u8]> for Form {
+    type Error = LineError;
+
+    ghost try_from_gives = { λ word r. r ≡ ok_or (form_named word.now) NotUnderstood };
+
+    #[tactic(auto, using(crate::proofs::Named::is_name))]
+    fn try_from(word: &[u8]) -> Result<Form, LineError> {
+        match word {
+            b"task" => Ok(Form::Task),
+            b"edge" => Ok(Form::Edge),
+            b"machine" => Ok(Form::Machine),
+            b"switch" => Ok(Form::Switch),
+            b"link" => Ok(Form::Link),
+            b"route" => Ok(Form::Route),
+            b"bookings" => Ok(Form::Bookings),
+            b"answer" => Ok(Form::Answer),
+            b"row" => Ok(Form::Row),
+            b"starts" => Ok(Form::Starts),
+            b"mark" => Ok(Form::Mark),
+            _ => Err(LineError::NotUnderstood),
+        }
     }
 }

@@ -3,8 +3,10 @@
 
 pub mod error;
 mod form;
+mod hop;
 pub mod line;
 mod lines;
+mod list;
 mod number;
 mod read;
 mod statement;

@@ -1,14 +1,14 @@
 //! Reads decimal numbers.
-ghost use Rattle.std.specs.Prelude.{◌≡◌, ℕ, ◌<◌, length, drop, IfSome, MatchOption};
-ghost use Rattle.std.specs.Option.{option_map};
-ghost use Rattle.script.specs.Number.{number_of, numbers_in, first_number, exactly_of};
+ghost use Rattle.std.specs.Prelude.{◌≡◌, ℕ, IsSome, MatchOption, Ok, ◌<◌, length};
+ghost use Rattle.std.specs.Iterator.{YieldsFirst, item_count};
+ghost use Rattle.std.specs.List.{list_all};
+ghost use Rattle.std.specs.Option.{option_map, is_some};
+ghost use Rattle.script.specs.Number.{number_of, numbers_of};
 ghost use Rattle.script.specs.Spelling.{Spells};
-ghost use Rattle.script.specs.Tell.{TellsList};
-ghost use Rattle.script.specs.Words.{words_of};
+ghost use Rattle.script.specs.Words.{words_left};
 
 use crate::error::LineError;
-use crate::words::next_word;
-use std::alloc::Global;
+use crate::words::Words;
 
 /// The number that `word` spells: decimal digits alone, of a value up to 4294967295.
 /// Zeros may stand in front, in any number: `007` is 7.
@@ -17,71 +17,80 @@ pub fn read_number(word: &[u8]) -> Option<u32>
     ensures value { result ≡ number_of word.now }
     ensures spells { MatchOption result ((n : ℕ) → Spells word.now n → ⊥) (λ n. Spells word.now n) }
 {
+    // No byte of an empty word fails, so it is refused here.
     if word.is_empty() {
         return None;
     }
     let mut value: u32 = 0;
     for byte in word {
-        if !byte.is_ascii_digit() {
-            return None;
-        }
-        value = value.checked_mul(10)?.checked_add(u32::from(*byte - b'0'))?;
+        let digit = char::from(*byte).to_digit(10)?;
+        value = value.checked_mul(10)?.checked_add(digit)?;
     }
     Some(value)
 }
 
-/// How many numbers `text` holds, if each of its words spells one.
-pub fn count_numbers(text: &[u8]) -> Option<usize>
-    ensures { result ≡ option_map (λ ns. length ns) (numbers_in text.now) }
+/// Whether each of `words` spells a number.
+fn are_numbers(mut words: Words) -> bool
+    ensures { result ≡ list_all (λ word. is_some (number_of word)) (words_left words.entry) }
 {
-    let mut count = 0;
-    let mut rest = text;
-    while let Some((word, after)) = next_word(rest) {
-        read_number(word)?;
-        count += 1;
-        rest = after;
-    }
-    Some(count)
+    words.all(|word| read_number(word).is_some())
 }
 
-/// The number that the first word of `text` spells, and what follows that word.
-pub fn next_number(text: &[u8]) -> Option<(u32, &[u8])>
-    ensures number { option_map (λ p. p.0) result ≡ first_number (words_of text.now) }
-    ensures rest { IfSome result (λ p. words_of p.1.now ≡ drop 1 (words_of text.now)) }
-    ensures shorter { IfSome result (λ p. length p.1.now < length text.now) }
-{
-    let (word, rest) = next_word(text)?;
-    let number = read_number(word)?;
-    Some((number, rest))
+/// The numbers of a text that are still to come: each of its words spells one.
+#[derive(Clone, Copy)]
+pub struct Numbers<'a> {
+    words: Words<'a>,
+    ghost each: { IsSome (numbers_of (words_left words)) },
 }
 
-/// The numbers of `text`, if these are `N`.
-pub fn exactly<const N: usize>(text: &[u8]) -> Result<[u32; N], LineError>
-    ensures { result ≡ exactly_of N (numbers_in text.now) }
-{
-    let mut numbers = [0; N];
-    let mut rest = text;
-    for number in &mut numbers {
-        let (value, after) = next_number(rest).ok_or(LineError::NotUnderstood)?;
-        *number = value;
-        rest = after;
+impl<'a> Numbers<'a> {
+    ghost use Rattle.script.specs.Left.{numbers_left};
+    ghost use Rattle.script.specs.Number.{exactly_of};
+
+    /// The numbers of `words`, if each word spells one.
+    #[tactic(auto, using(crate::proofs::Numbers::numbers_if_all))]
+    pub fn new(words: Words<'a>) -> Option<Numbers<'a>>
+        ensures { option_map numbers_left result ≡ numbers_of (words_left words.entry) }
+    {
+        // An `if`, since a closure for `then` would not know that each word spells a number.
+        if are_numbers(words) {
+            Some(Numbers { words })
+        } else {
+            None
+        }
     }
-    match next_word(rest) {
-        None => Ok(numbers),
-        Some(_) => Err(LineError::NotUnderstood),
+
+    /// The numbers, if these are `N`.
+    pub fn exactly<const N: usize>(mut self) -> Result<[u32; N], LineError>
+        ensures { result ≡ exactly_of N (Some (numbers_left self.entry)) }
+    {
+        // Filled by a loop: of a closure that takes from `self`, nothing would be known of what it took.
+        let mut numbers = [0; N];
+        for number in &mut numbers {
+            *number = self.next().ok_or(LineError::NotUnderstood)?;
+        }
+        let ended = self.next().is_none();
+        ended.then_some(numbers).ok_or(LineError::NotUnderstood)
     }
 }
 
-/// The numbers of `text` in a list, if each of its words spells one.
-pub fn read_numbers(heap: Global, text: &[u8]) -> Result<Vec<u32>, LineError>
-    ensures { TellsList result (numbers_in text.now) }
-{
-    let count = count_numbers(text).ok_or(LineError::NotUnderstood)?;
-    let mut numbers = Vec::with_capacity(heap, count)?;
-    let mut rest = text;
-    while let Some((number, after)) = next_number(rest) {
-        numbers.push(number)?;
-        rest = after;
+impl Iterator for Numbers<'_> {
+    ghost use Rattle.script.specs.Left.{numbers_left};
+
+    type Item = u32;
+
+    ghost next_gives = { YieldsFirst numbers_left };
+
+    ghost remaining = { item_count numbers_left };
+
+    fn next(&mut self) -> Option<u32> {
+        self.words.next().and_then(read_number)
     }
-    Ok(numbers)
+}
+
+impl ExactSizeIterator for Numbers<'_> {
+    #[tactic(auto, using(crate::proofs::Numbers::numbers_length))]
+    fn len(&self) -> usize {
+        self.words.len()
+    }
 }

@@ -6,7 +6,7 @@ ghost use Rattle.script.specs.Written.{ReadsBack};
 use crate::error::LineError;
 use crate::line::Line;
 use crate::statement::statement_of;
-use crate::words::{next_word, without_comment};
+use crate::words::{Words, without_comment};
 use std::alloc::Global;
 
 /// What `line` says, a line of a script without its newline; `None` where it holds no word.
@@ -16,9 +16,10 @@ pub fn read_line(heap: Global, line: &[u8]) -> Result<Option<Line>, LineError>
     ensures again { read (spaced (line_words line.now)) ≡ read line.now }
     ensures written { ReadsBack }
 {
-    let Some((word, text)) = next_word(without_comment(line)) else {
+    let mut words = Words::new(without_comment(line));
+    let Some(word) = words.next() else {
         return Ok(None);
     };
-    let said = statement_of(heap, word, text)?;
+    let said = statement_of(heap, word, words)?;
     Ok(Some(said))
 }

@@ -1,20 +1,17 @@
 //! Lines and what they say.
 use script::{HopWords, Line, LineError, RouteKind, read_line, read_number};
-use std::alloc::Global;
 use std::process::Abort;
 use std::test::Fail;
 
-fn says(rt: &impl Abort, heap: Global, line: &[u8], expected: Line) {
-    assert_eq!(rt; read_line(heap, line), Ok(Some(expected)));
+fn says(rt: &(impl Abort + AllocGlobal), line: &[u8], expected: Line) {
+    assert_eq!(rt; read_line(rt.alloc(), line), Ok(Some(expected)));
 }
 
 #[test]
-fn understands(rt: HostRuntime) -> Result<(), Fail> {
-    let heap = rt.alloc();
-    says(&rt, heap, b"\ttask 007 # seven\xff", Line::Task { work: 7 });
+fn understands(rt: HostRuntime) {
+    says(&rt, b"\ttask 007 # seven\xff", Line::Task { work: 7 });
     says(
         &rt,
-        heap,
         b"edge 0 1 4294967295\r",
         Line::Edge {
             from: 0,
@@ -22,19 +19,13 @@ fn understands(rt: HostRuntime) -> Result<(), Fail> {
             volume: 4294967295,
         },
     );
+    says(&rt, b"routes slowness#x", Line::Routes(RouteKind::Slowness));
+    says(&rt, b"machine 3", Line::Machine { speed: 3 });
+    says(&rt, b"switch", Line::Switch);
+    says(&rt, b"bookings 4096", Line::Bookings { most: 4096 });
+    says(&rt, b"answer", Line::Answer);
     says(
         &rt,
-        heap,
-        b"routes slowness#x",
-        Line::Routes(RouteKind::Slowness),
-    );
-    says(&rt, heap, b"machine 3", Line::Machine { speed: 3 });
-    says(&rt, heap, b"switch", Line::Switch);
-    says(&rt, heap, b"bookings 4096", Line::Bookings { most: 4096 });
-    says(&rt, heap, b"answer", Line::Answer);
-    says(
-        &rt,
-        heap,
         b"row 127 15 9",
         Line::Row {
             task: 127,
@@ -42,8 +33,7 @@ fn understands(rt: HostRuntime) -> Result<(), Fail> {
             start: 9,
         },
     );
-    says(&rt, heap, b"mark", Line::Mark);
-    Ok(())
+    says(&rt, b"mark", Line::Mark);
 }
 
 #[test]
@@ -52,7 +42,6 @@ fn understands_lists(rt: HostRuntime) -> Result<(), Fail> {
     let stations = vec![in heap; 0, 1, 2]?;
     says(
         &rt,
-        heap,
         b"link 10 0 1 2",
         Line::Link {
             speed: 10,
@@ -62,7 +51,6 @@ fn understands_lists(rt: HostRuntime) -> Result<(), Fail> {
     let stations = vec![in heap;]?;
     says(
         &rt,
-        heap,
         b"link 10",
         Line::Link {
             speed: 10,
@@ -77,7 +65,6 @@ fn understands_lists(rt: HostRuntime) -> Result<(), Fail> {
     ]?;
     says(
         &rt,
-        heap,
         b"route 0 2 1 2",
         Line::Route {
             from: 0,
@@ -86,12 +73,7 @@ fn understands_lists(rt: HostRuntime) -> Result<(), Fail> {
         },
     );
     let starts = vec![in heap; 8, 11]?;
-    says(
-        &rt,
-        heap,
-        b"starts 223 8 11",
-        Line::Starts { edge: 223, starts },
-    );
+    says(&rt, b"starts 223 8 11", Line::Starts { edge: 223, starts });
     Ok(())
 }
 
@@ -142,4 +124,16 @@ fn reads_numbers(rt: HostRuntime) {
     assert_eq!(rt; read_number(b"4294967296"), None);
     assert_eq!(rt; read_number(b"1_0"), None);
     assert_eq!(rt; read_number(b""), None);
+}
+
+#[test]
+fn reads_kinds_of_routes(rt: HostRuntime) {
+    assert_eq!(rt;
+        RouteKind::try_from(b"hops".as_slice()),
+        Ok(RouteKind::Hops)
+    );
+    assert_eq!(rt;
+        RouteKind::try_from(b"hop".as_slice()),
+        Err(LineError::NotUnderstood)
+    );
 }

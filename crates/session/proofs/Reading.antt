@@ -40,11 +40,6 @@ split l (m ∷ ls) ls' p = let same : Some l ≡ Some m = p.first in let left : 
 pub first_stated : (n : ℕ) (l : List ℕ) (ls ls' : List (List ℕ)) → Comes l ls ls' → statements n ls ≡ stated (n + 1) (read l) (statements (n + 1) ls')
 first_stated n l ls ls' p = ap (statements n) (split l ls ls' p)
 
--- no line is left
-pub none_stated : (n : ℕ) (ls : List (List ℕ)) → None ≡ slice_get ls 0 → statements n ls ≡ []
-none_stated n [] p = refl
-none_stated n (l ∷ ls) p = let none : ◌≡◌ {A = _} None (Some l) = p in cc
-
 -- what it means that a line takes memory
 takes : (a : Answer) → TakesMemory a → (d : LineData) × (a ≡ says d) × IsTrue (takes_memory d)
 takes silent h = absurd h

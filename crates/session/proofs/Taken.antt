@@ -1,8 +1,8 @@
 -- Rows of routes that are moved out of a list one by one, and put in order into another.
-use Rattle.std.proofs.Common.{◌≡◌, ℕ, zero, suc, ◌+◌, ◌*◌, ◌<◌, ◌≤◌, ◌&&◌, nat_lt, List, [], ◌∷◌, ◌++◌, length, map, Some, None, vec_items, Option, Vec, slice_set, slice_index_or, if◌then◌else◌, ◌==◌, refl, sym, ap, ◌∙◌, add-one, zero-add, append_assoc, arith}
+use Rattle.std.proofs.Common.{◌≡◌, ℕ, zero, suc, ◌+◌, ◌*◌, ◌<◌, ◌≤◌, ◌&&◌, nat_lt, List, [], ◌∷◌, ◌++◌, map, Some, None, vec_items, Option, Vec, slice_set, slice_index_or, if◌then◌else◌, ◌==◌, refl, sym, ap, ◌∙◌, add-one, zero-add, append_assoc, arith}
 use Rattle.std.specs.Option.{option_map}
 use Rattle.std.specs.List.{flat_map, range_with_len}
-use Rattle.std.proofs.lemmas.List.{map-set, set_past, length-map, append-nil, map-append, get_or-set_other}
+use Rattle.std.proofs.lemmas.List.{append-nil, map-append, get_or-set_other}
 use Rattle.std.proofs.lemmas.List.FromFn.{map-range_with_len_more}
 use Rattle.std.proofs.lemmas.Grind.{flat_map-append}
 use Rattle.std.proofs.lemmas.Bool.{and_from, cond-true, lt-ltb}
@@ -12,16 +12,9 @@ use Rattle.routes.specs.Tables.{rows_of}
 use Rattle.routes.specs.declared.hop.Hop.{Hop}
 use Rattle.session.specs.RouteRows.{SameFrom, row_between}
 
-pub row_taken : {Y : Type 0} (rows : List (Option (Vec Hop Y))) (i : ℕ) → rows_of (slice_set rows i None) ≡ slice_set (rows_of rows) i None
-row_taken rows i = map-set (option_map vec_items) rows i None
-
 -- between two of the 16 stations the first of two is meant
 pub chosen : {A : Type 0} (s t : ℕ) (x a b : A) → s < 16 → t < 16 → x ≡ (if nat_lt s 16 && nat_lt t 16 then a else b) → x ≡ a
 chosen s t x a b known there is = is ∙ cond-true _ a b (and_from _ _ (lt-ltb s 16 known) (lt-ltb t 16 there))
-
--- past the end none is taken
-pub none_taken : {Y : Type 0} (rows : List (Option (Vec Hop Y))) (i : ℕ) → length rows ≤ i → rows_of rows ≡ slice_set (rows_of rows) i None
-none_taken rows i past = sym (set_past (rows_of rows) i None (omega (arith, length-map rows (option_map vec_items))))
 
 -- what is the same from place i on is so from a later place on, once the row at i is taken
 pub same_past : (xs ys zs : List (Option (List Hop))) (i j : ℕ) → SameFrom i xs ys → zs ≡ slice_set ys i None → i < j → SameFrom j xs zs

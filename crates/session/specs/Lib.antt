@@ -1,7 +1,9 @@
 pub mod Printing
+pub mod Pairs
 pub mod Settings
 pub mod RouteRows
 pub mod Statements
 pub mod Stops
 pub mod Answers
 pub mod Sessions
+pub mod Following

@@ -10,6 +10,14 @@ use Rattle.marker.specs.declared.verdict.Verdict.{Verdict}
 use Rattle.marker.specs.declared.verdict.Verdict.TheVariants.{Lawful, Broken}
 use Rattle.script.specs.declared.line.RouteKind.{RouteKind}
 use Rattle.script.specs.declared.line.RouteKind.TheVariants.{Hops, Slowness, Written}
+use Rattle.session.specs.declared.stop.Maker.{Maker}
+use Rattle.session.specs.declared.stop.Maker.TheVariants.{Job, Network, Routes}
+
+-- what is made of a setting, by its name
+abbrev pub maker_name : Maker → List ℕ
+maker_name Job = codes "job"
+maker_name Network = codes "network"
+maker_name Routes = codes "routes"
 
 -- why the maker of this name refused
 unfoldable pub refusal_line : List ℕ → Refusal → List ℕ

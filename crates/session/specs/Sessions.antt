@@ -21,7 +21,7 @@ use Rattle.session.specs.Settings.{SettingData, setting_of, no_setting, is_setti
 use Rattle.session.specs.Statements.{Statement, statements}
 use Rattle.session.specs.declared.setting.Setting.{Setting}
 use Rattle.session.specs.declared.stop.Stop.{Stop}
-use Rattle.session.specs.declared.stop.Stop.TheVariants.{NotUnderstood, Failed}
+use Rattle.session.specs.declared.stop.Stop.TheVariants.{NotUnderstood, Refused, Failed}
 
 -- the lines of the setting, read to their end
 pub data Gathering : Type 0 where
@@ -44,6 +44,7 @@ gathering S (s ∷ ss) = gathering_before (λ T. gathering T ss) S s ss
 abbrev pub Gathers : Result Setting Stop → ℕ → List Statement → Gathering → Type 0
 Gathers (Ok setting) n rest g = g ≡ ready (setting_of setting) rest
 Gathers (Err NotUnderstood) n rest g = g ≡ stopped n
+Gathers (Err (Refused maker r)) n rest g = ⊥
 Gathers (Err (Failed e)) n rest g = Unit {0}
 
 -- the refusal of a maker, or else what is printed where it makes something

@@ -6,12 +6,12 @@ use Rattle.model.specs.declared.network.Link.{Link}
 use Rattle.model.specs.declared.network.Station.{Station}
 use Rattle.model.specs.declared.network.Station.TheVariants.{Machine, Switch}
 use Rattle.model.specs.declared.stations.StationSet.{StationSet}
-use Rattle.routes.specs.Tables.{rows_of}
 use Rattle.routes.specs.declared.hop.Hop.{Hop}
 use Rattle.script.specs.Data.{LineData, task, edge, machine, switch, link, routes, route, bookings, answer, row, starts, mark}
 use Rattle.script.specs.declared.line.HopWords.{HopWords}
 use Rattle.script.specs.declared.line.RouteKind.{RouteKind}
 use Rattle.script.specs.declared.line.RouteKind.TheVariants.{Hops}
+use Rattle.session.specs.Pairs.{pairs_of}
 use Rattle.session.specs.declared.setting.Setting.{Setting}
 
 pub record SettingData : Type 0 where
@@ -30,7 +30,7 @@ setting_of s = record {
   stations = vec_items s.stations;
   links = vec_items s.links;
   kind = s.kind;
-  written = rows_of (vec_items s.written);
+  written = pairs_of s.written;
 }
 
 -- before any line: by hops

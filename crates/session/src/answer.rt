@@ -5,16 +5,15 @@ ghost use Rattle.model.specs.Plans.{plan_of, starts_of, blank_plan};
 ghost use Rattle.script.specs.Data.{line_data};
 ghost use Rattle.session.specs.Answers.{plan_after, text_of, answered};
 ghost use Rattle.session.specs.Statements.{to_come};
-ghost use Rattle.session.specs.Stops.{Prints, Writes};
+ghost use Rattle.session.specs.Stops.{Prints};
 
 use crate::print::print_verdict;
-use crate::reader::Reader;
+use crate::session::Session;
 use crate::stop::Stop;
 use marker::mark;
 use model::{Job, Placement, Plan, TransferRow};
 use routes::Routes;
 use script::Line;
-use std::alloc::Global;
 use std::io::Write;
 
 /// The transfer row with these starts, or the first 15 of them.
@@ -23,6 +22,7 @@ fn transfer_of(starts: &[u32]) -> TransferRow
 {
     let mut row = TransferRow::new();
     for start in starts {
+        // A full row takes no more.
         let _ = row.push(*start);
     }
     row
@@ -58,19 +58,17 @@ fn answer_line<R: Routes, W: Write>(
     Ok(())
 }
 
-/// Carries out the lines that follow the setting, over an answer that is blank at first.
-pub fn answers<R: Routes, W: Write>(
-    alloc: Global,
-    reader: &mut Reader<'_>,
-    job: &Job,
-    routes: &R,
-    out: &mut W,
-) -> Result<(), Stop>
-    ensures { Writes result (W.contents out.old) (W.contents out.new) reader.new.number (answered (job_of job.now) (net_of (R.Routes.over routes.now)) (R.Routes.route routes.now) blank_plan (to_come reader.old)) }
-{
-    let mut plan = Plan::new();
-    while let Some(line) = reader.next(alloc)? {
-        answer_line(out, job, routes, &mut plan, line)?;
+impl<W: Write> Session<'_, '_, W> {
+    ghost use Rattle.session.specs.Following.{Follows};
+
+    /// Carries out the lines that follow the setting, over an answer that is blank at first.
+    pub fn answers<R: Routes>(&mut self, job: &Job, routes: &R) -> Result<(), Stop>
+        ensures { Follows W.contents result self.old self.new (answered (job_of job.now) (net_of (R.Routes.over routes.now)) (R.Routes.route routes.now) blank_plan (to_come self.old.reader)) }
+    {
+        let mut plan = Plan::new();
+        while let Some(line) = self.reader.next(self.alloc)? {
+            answer_line(self.out, job, routes, &mut plan, line)?;
+        }
+        Ok(())
     }
-    Ok(())
 }

@@ -5,6 +5,7 @@ mod answer;
 mod follow;
 mod print;
 mod reader;
+mod session;
 mod setting;
 mod stop;
 mod table;

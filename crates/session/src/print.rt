@@ -3,8 +3,9 @@ ghost use Rattle.std.specs.Prelude.{◌≡◌, OnOk};
 ghost use Rattle.std.specs.Io.KnownBytes.{Appends};
 ghost use Rattle.model.specs.Data.{job_of, net_of};
 ghost use Rattle.model.specs.Plans.{plan_of};
-ghost use Rattle.session.specs.Printing.{refusal_line, not_understood_line, origin_text, made_line, verdict_line};
+ghost use Rattle.session.specs.Printing.{maker_name, refusal_line, not_understood_line, origin_text, made_line, verdict_line};
 
+use crate::stop::Maker;
 use marker::Verdict;
 use model::plan::measures::{placed_count, plan_length};
 use model::{Job, Network, Plan, Refusal};
@@ -12,14 +13,12 @@ use script::RouteKind;
 use std::io;
 use std::io::Write;
 
-/// Why a maker refused: its name, the number and the detail.
+/// What could not be made, and why: the number of the refusal and its detail.
 #[tactic(auto, unfolding(crate::specs::Printing::refusal_line))]
-pub fn print_refusal<W: Write>(out: &mut W, maker: &str, refusal: Refusal) -> io::Result<()>
-    ensures { OnOk result (Appends (W.contents out.old) (W.contents out.new) (refusal_line maker.now refusal)) }
+pub fn print_refusal<W: Write>(out: &mut W, maker: Maker, refusal: Refusal) -> io::Result<()>
+    ensures { OnOk result (Appends (W.contents out.old) (W.contents out.new) (refusal_line (maker_name maker) refusal)) }
 {
-    let number = refusal.number();
-    let detail = refusal.detail();
-    writeln!(out, "{maker} refused {number} {detail}")
+    writeln!(out, "{maker} refused {refusal}")
 }
 
 /// Which line is not understood.
@@ -30,7 +29,7 @@ pub fn print_not_understood<W: Write>(out: &mut W, number: usize) -> io::Result<
     writeln!(out, "line {number} not understood")
 }
 
-/// How the routes of a kind came about.
+/// How the routes of a kind came about. The kind's own name is a word of the script's, and its type another crate's.
 fn origin(kind: RouteKind) -> &'static str
     ensures { result.now ≡ origin_text kind }
 {
@@ -51,14 +50,14 @@ pub fn print_made<W: Write>(
 ) -> io::Result<()>
     ensures { OnOk result (Appends (W.contents out.old) (W.contents out.new) (made_line (job_of job.now) (net_of network.now) kind)) }
 {
-    let tasks = job.task_count();
-    let edges = job.edge_count();
-    let stations = network.station_count();
-    let links = network.link_count();
-    let routes = origin(kind);
     writeln!(
         out,
-        "job of {tasks} tasks and {edges} edges, network of {stations} stations and {links} links, routes {routes}"
+        "job of {} tasks and {} edges, network of {} stations and {} links, routes {}",
+        job.task_count(),
+        job.edge_count(),
+        network.station_count(),
+        network.link_count(),
+        origin(kind)
     )
 }
 
@@ -75,14 +74,14 @@ pub fn print_verdict<W: Write>(
 {
     match verdict {
         Verdict::Lawful => {
-            let placed = placed_count(plan);
-            let tasks = job.task_count();
-            let length = plan_length(job, network, plan);
-            writeln!(out, "lawful placed {placed} of {tasks} length {length}")
+            writeln!(
+                out,
+                "lawful placed {} of {} length {}",
+                placed_count(plan),
+                job.task_count(),
+                plan_length(job, network, plan)
+            )
         }
-        Verdict::Broken(rule, first, second) => {
-            let letter = rule.letter();
-            writeln!(out, "broken {letter} {first} {second}")
-        }
+        Verdict::Broken(rule, first, second) => { writeln!(out, "broken {rule} {first} {second}") }
     }
 }

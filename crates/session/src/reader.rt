@@ -46,6 +46,7 @@ impl<'a> Reader<'a> {
         if let Some(line) = self.handed_back.take() {
             return Ok(Some(line));
         }
+        // Not a `for`, which would need a measure, since the lines' `next` has clauses of its own.
         while let Some(bytes) = self.lines.next() {
             self.number += 1;
             if let Some(line) = read_line(alloc, bytes)? {

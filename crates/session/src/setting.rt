@@ -1,22 +1,19 @@
 //! What the first lines of a script gather: the lists of which the job, the network and the routes are made.
-ghost use Rattle.std.specs.Prelude.{◌≡◌, map, replicate, Some, None, if◌then◌else◌, IfOk, OnOk, OnErr};
-ghost use Rattle.routes.specs.Tables.{rows_of};
+ghost use Rattle.std.specs.Prelude.{◌≡◌, map, Some, None, if◌then◌else◌, IfOk, OnOk, OnErr};
 ghost use Rattle.script.specs.Data.{line_data};
 ghost use Rattle.session.specs.Settings.{setting_of, no_setting, link_from, hop_from, with_route, is_setting, with_line};
 
+use model::network::MOST_STATIONS;
 use model::{Edge, Link, Speed, Station, StationSet};
 use routes::Hop;
 use script::{HopWords, Line, RouteKind};
 use std::alloc::{AllocError, Global};
+use std::collections::BTreeMap;
 
-/// How many stations a network has at most.
-pub const STATIONS: usize = 16;
+/// The hops that are written for pairs of stations, by origin and goal.
+pub type WrittenHops = BTreeMap<(usize, usize), Vec<Hop>>;
 
-/// How many ordered pairs of stations there are at most.
-const PAIRS: usize = 256;
-
-/// The lists, in the order of their lines. The hops written for the pair of stations s and t, if a line has any,
-/// stand at place 16 × s + t of `written`.
+/// The lists, in the order of their lines, and the hops of the pairs that a line has.
 #[derive(Drop)]
 pub struct Setting {
     pub works: Vec<u32>,
@@ -24,7 +21,7 @@ pub struct Setting {
     pub stations: Vec<Station>,
     pub links: Vec<Link>,
     pub kind: RouteKind,
-    pub written: Vec<Option<Vec<Hop>>>,
+    pub written: WrittenHops,
 }
 
 /// The link that joins these stations.
@@ -58,47 +55,34 @@ fn hops_of(alloc: Global, words: &[HopWords]) -> Result<Vec<Hop>, AllocError>
     words.iter().copied().map(hop_of).collect(alloc)
 }
 
-/// A place for each pair of stations, with no hops written.
-#[tactic(auto, using(crate::proofs::Gathered::one_blank_more))]
-fn no_routes(alloc: Global) -> Result<Vec<Option<Vec<Hop>>>, AllocError>
-    ensures { IfOk result (λ rows. rows_of rows.items ≡ replicate 256 None) }
-{
-    let mut rows = Vec::new(alloc);
-    for _ in 0..PAIRS {
-        rows.push(None)?;
-    }
-    Ok(rows)
-}
-
 impl Setting {
     /// What no line gathers.
-    pub fn new(alloc: Global) -> Result<Setting, AllocError>
-        ensures { IfOk result (λ setting. setting_of setting ≡ no_setting) }
+    #[tactic(auto, using(crate::proofs::Pairs::pairs_empty))]
+    pub fn new(alloc: Global) -> Setting
+        ensures { setting_of result ≡ no_setting }
     {
-        Ok(Setting {
+        Setting {
             works: Vec::new(alloc),
             edges: Vec::new(alloc),
             stations: Vec::new(alloc),
             links: Vec::new(alloc),
             kind: RouteKind::Hops,
-            written: no_routes(alloc)?,
-        })
+            written: BTreeMap::new(alloc),
+        }
     }
 
     /// Keeps the hops of a pair of stations; of two lines for a pair the later counts.
     /// A number above 15 is no station, and its line is passed over.
-    #[tactic(auto, using(crate::proofs::Gathered::route_written))]
-    fn write_route(&mut self, from: u32, to: u32, hops: Vec<Hop>)
-        ensures { setting_of self.new ≡ record (setting_of self.old) { written = with_route (setting_of self.old).written from to hops.items } }
+    #[tactic(auto, using(crate::proofs::Pairs::pair_written, crate::proofs::Pairs::pairs_unchanged))]
+    fn write_route(&mut self, from: u32, to: u32, hops: Vec<Hop>) -> Result<(), AllocError>
+        ensures written { OnOk result (setting_of self.new ≡ record (setting_of self.old) { written = with_route (setting_of self.old).written from to hops.items }) }
+        ensures err { OnErr result (setting_of self.new ≡ setting_of self.old) }
     {
-        let from = from as usize;
-        let to = to as usize;
-        if from < STATIONS && to < STATIONS {
-            let place = STATIONS * from + to;
-            if place < self.written.len() {
-                self.written[place] = Some(hops);
-            }
+        let pair = (from as usize, to as usize);
+        if pair.0 < MOST_STATIONS && pair.1 < MOST_STATIONS {
+            self.written.insert(pair, hops)?;
         }
+        Ok(())
     }
 
     /// Takes in a line that belongs to the setting, and hands any other back.
@@ -123,7 +107,7 @@ impl Setting {
             Line::Routes(kind) => self.kind = kind,
             Line::Route { from, to, hops } => {
                 let hops = hops_of(alloc, &hops)?;
-                self.write_route(from, to, hops);
+                self.write_route(from, to, hops)?;
             }
             Line::Bookings { most: _ } => {}
             other => return Ok(Some(other)),

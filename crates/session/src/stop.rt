@@ -1,12 +1,39 @@
 //! Why a script is followed no further.
+ghost use Rattle.std.specs.Prelude.{Some};
+ghost use Rattle.session.specs.Printing.{maker_name};
+
+use model::Refusal;
 use script::LineError;
 use std::alloc::AllocError;
-use std::io;
+use std::{fmt, io};
 
+/// What is made of a setting.
+#[derive(Clone, Copy, Debug, PartialEq, Eq)]
+pub enum Maker {
+    Job,
+    Network,
+    Routes,
+}
+
+impl fmt::Display for Maker {
+    ghost output = { λ maker. Some (maker_name maker) };
+
+    fn fmt<W: fmt::Write>(&self, f: &mut fmt::Formatter<W>) -> fmt::Result {
+        match self {
+            Maker::Job => write!(f, "job"),
+            Maker::Network => write!(f, "network"),
+            Maker::Routes => write!(f, "routes"),
+        }
+    }
+}
+
+/// Why a script is followed no further.
 #[derive(Drop)]
 pub enum Stop {
     /// The line read last is not understood.
     NotUnderstood,
+    /// This could not be made of the setting.
+    Refused(Maker, Refusal),
     /// There is no memory, or what was found cannot be written.
     Failed(io::Error),
 }

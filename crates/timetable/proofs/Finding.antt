@@ -1,5 +1,5 @@
 -- The first start that is clear of the bookings tells whether a resource is free, and from when on.
-use Rattle.std.proofs.Common.{◌≡◌, ℕ, ◌+◌, ◌<◌, ◌≤◌, Bool, true, false, List, count_by, Some, None, Option, ◌==◌, nat_eq, sym, refl, ap, ◌∙◌, ⊎_elim, arith}
+use Rattle.std.proofs.Common.{◌≡◌, ℕ, ◌+◌, ◌<◌, ◌≤◌, Bool, true, false, List, count_by, Some, None, Option, nat_eq, sym, refl, ap, ◌∙◌, ⊎_elim, arith}
 use Rattle.std.specs.List.{list_any}
 use Rattle.std.specs.Option.{option_eq}
 use Rattle.std.proofs.lemmas.Bool.{both_ways, cases_lt, cases_eq, eq-eqb, ne_eqb}
@@ -42,26 +42,18 @@ free_earliest T r s d = go (earliest T r s d) refl
         (λ away. ne_eqb k s away ∙ sym (first.not_before s (omega arith) (omega (arith, away, first.late_enough))))
         (cases_eq k s)
 
--- c is the first start that is clear, of a list with the bookings of the table
-module _ (T : Table) (ys : List Booking) (same : (p : Booking → Bool) → count_by p ys ≡ count_by p T.bookings) (r from d c : ℕ) (late : from ≤ c) (not_before : (k : ℕ) → from ≤ k → k < c → list_any (collide (span r k d)) ys ≡ true) (clear : list_any (collide (span r c d)) ys ≡ false) where
-  clear_here : list_any (collide (span r c d)) T.bookings ≡ false
-  clear_here = sym (list_any_same T.bookings ys same (collide (span r c d))) ∙ clear
-
+-- no start before c is clear, of a list with the bookings of the table
+module _ (T : Table) (ys : List Booking) (same : (p : Booking → Bool) → count_by p ys ≡ count_by p T.bookings) (r from d c : ℕ) (not_before : (k : ℕ) → from ≤ k → k < c → list_any (collide (span r k d)) ys ≡ true) where
   taken_before : (k : ℕ) → from ≤ k → k < c → free T r k d ≡ false
   taken_before k here before =
       not_free_taken T r k d (sym (list_any_same T.bookings ys same (collide (span r k d))) ∙ not_before k here before)
 
-  pub free_first : 1 ≤ d → from + d ≤ T.horizon → r ≤ 47 → (from == c) ≡ free T r from d
-  free_first some in_time known =
-      ⊎_elim
-      (λ at. eq-eqb from c at ∙ sym (free_clear T r from d some in_time known (ap (λ s. list_any (collide (span r s d)) T.bookings) at ∙ clear_here)))
-      (λ away. ne_eqb from c away ∙ sym (taken_before from (omega arith) (omega arith)))
-      (cases_eq from c)
-
-  pub earliest_first : 1 ≤ d → c + d ≤ T.horizon → r ≤ 47 → earliest T r from d ≡ Some c
-  earliest_first some in_time known =
-      words_first T r d from c (record { late_enough = late; free_there = free_clear T r c d some in_time known clear_here; not_before = taken_before })
-
   pub earliest_none : T.horizon < c + d → earliest T r from d ≡ None
   earliest_none past =
       words_none T r d from (λ s here. ⊎_elim (taken_before s here) (λ behind. not_free_late T r s d (omega arith)) (cases_lt s c))
+
+  -- and c is
+  pub earliest_first : from ≤ c → list_any (collide (span r c d)) ys ≡ false → 1 ≤ d → c + d ≤ T.horizon → r ≤ 47 → earliest T r from d ≡ Some c
+  earliest_first late clear some in_time known =
+      let clear_here = sym (list_any_same T.bookings ys same (collide (span r c d))) ∙ clear in
+      words_first T r d from c (record { late_enough = late; free_there = free_clear T r c d some in_time known clear_here; not_before = taken_before })

@@ -1,5 +1,5 @@
 -- A pass over bookings in the order of their starts: each that is in the way of a start moves it to its end, and none before is in the way again.
-use Rattle.std.proofs.Common.{◌≡◌, ℕ, ◌+◌, ◌<◌, ◌≤◌, true, false, List, length, get_or, take, refl, ap, ◌∙◌, ⊎_elim, arith}
+use Rattle.std.proofs.Common.{◌≡◌, ℕ, ◌+◌, ◌<◌, ◌≤◌, true, false, List, length, get_or, take, ap, ◌∙◌, ⊎_elim, arith}
 use Rattle.std.specs.List.{list_any}
 use Rattle.std.specs.List.Sorted.{IsNonDecreasingBy}
 use Rattle.std.proofs.lemmas.Bool.{both_ways, cases_lt, false_from_ne_true, or_from}
@@ -64,10 +64,3 @@ module _ (bs : List Booking) (r d from i s : ℕ) (z : Booking) (within : i < le
             (cases_lt k s);
         clear = list_any_more there bs i z within ∙ or_from _ _ earlier (at_end b r d);
       }
-
-pub passed_none : (bs : List Booking) (r d from : ℕ) → Passed bs r d from 0 from
-passed_none bs r d from = record {
-  late_enough = omega arith;
-  not_before = λ k late before. absurd (omega arith);
-  clear = refl;
-}

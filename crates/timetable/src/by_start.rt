@@ -1,5 +1,5 @@
 //! Bookings in the order of their starts.
-ghost use Rattle.std.specs.Prelude.{◌≡◌, ℕ, ◌+◌, ◌<◌, ◌≤◌, ◌^◌, Bool, true, false, [], count_by, Contains, if◌then◌else◌, vec_len, vec_capacity, IfOk, IsOk, MatchOption};
+ghost use Rattle.std.specs.Prelude.{◌≡◌, ℕ, ◌+◌, ◌<◌, ◌≤◌, ◌^◌, Bool, true, false, [], count_by, Contains, if◌then◌else◌, vec_len, vec_capacity, IfOk, IsOk, IfSome, IsNone, MatchOption};
 ghost use Rattle.std.specs.List.{list_any, slice_get};
 ghost use Rattle.std.specs.List.Sorted.{IsNonDecreasingBy};
 ghost use Rattle.model.specs.Bookings.{collide};
@@ -35,24 +35,24 @@ impl ByStart {
         ensures room { vec_capacity self.new.list ≡ vec_capacity self.old.list }
     {
         let place = self.list.partition_point(|b| b.start <= booking.start);
-        let _ = self.list.insert(place, booking);
+        self.list.insert(place, booking).unwrap();
     }
 
-    /// The first start at or after `from` from which no booking of the resource is in the way for `ticks` ticks.
+    /// The wanted booking at its own start or the first later one at which no booking is in its way; none where that is no tick.
     /// Each booking that is in the way moves the start to its end. One pass is enough, since their starts rise.
-    pub(crate) fn first_clear(&self, resource: usize, from: Tick, ticks: Tick) -> u64
-        ensures late_enough { from ≤ result }
-        ensures fits { result < 2 ^ 33 }
-        ensures not_before { (k : ℕ) → from ≤ k → k < result → list_any (collide (span resource k ticks)) self.now.list.items ≡ true }
-        ensures clear { list_any (collide (span resource result ticks)) self.now.list.items ≡ false }
+    pub(crate) fn first_clear(&self, mut wanted: Booking) -> Option<Booking>
+        ensures moved { IfSome result (λ found. found ≡ span wanted.resource found.start wanted.length) }
+        ensures late_enough { IfSome result (λ found. wanted.start ≤ found.start) }
+        ensures clear { IfSome result (λ found. list_any (collide found) self.now.list.items ≡ false) }
+        ensures not_before { IfSome result (λ found. (k : ℕ) → wanted.start ≤ k → k < found.start → list_any (collide (span wanted.resource k wanted.length)) self.now.list.items ≡ true) }
+        ensures none { IsNone result → (k : ℕ) → wanted.start ≤ k → k < 2 ^ 32 → list_any (collide (span wanted.resource k wanted.length)) self.now.list.items ≡ true }
     {
-        let mut start = u64::from(from);
         for b in &self.list {
-            if is_in_way(b, resource, start, u64::from(ticks)) {
-                start = b.end();
+            if wanted.collides(b) {
+                wanted.start = Tick::try_from(b.end()).ok()?;
             }
         }
-        start
+        Some(wanted)
     }
 
     /// Takes a booking out, once.
@@ -71,17 +71,5 @@ impl ByStart {
 fn place_of(list: &[Booking], booking: &Booking) -> Option<usize>
     ensures { MatchOption result (¬ (Contains list.now booking.now)) (λ i. slice_get list.now i ≡ Some booking.now) }
 {
-    list.iter().position(|b| {
-        b.start == booking.start && b.resource == booking.resource && b.length == booking.length
-    })
-}
-
-/// Whether a booking is of the resource and has one of the `ticks` ticks from `start`.
-fn is_in_way(booking: &Booking, resource: usize, start: u64, ticks: u64) -> bool
-    requires start_fits { start < 2 ^ 33 }
-    requires ticks_fit { ticks < 2 ^ 33 }
-    ensures { result ≡ collide (span resource start ticks) booking.now }
-{
-    booking.resource == resource
-        && u64::from(booking.start).max(start) < booking.end().min(start + ticks)
+    list.iter().position(|b| b == booking)
 }

@@ -3,7 +3,7 @@
 //! `rt run -- time`, in this folder.
 #![tactic(auto)]
 
-use anyhow::anyhow;
+use anyhow::Context;
 use model::{Booking, Tick};
 use std::alloc::Global;
 use std::env;
@@ -46,48 +46,43 @@ const LOADS: [Load; 4] = [
     },
 ];
 
-/// The number of the resource that comes `i`-th.
-fn resource_of(load: Load, i: Tick) -> usize {
-    i.checked_rem(load.resources).unwrap_or(0) as usize
-}
-
-/// A timetable with these bookings.
-fn booked(alloc: Global, load: Load) -> anyhow::Result<Roll> {
-    let Ok(mut roll) = Roll::new(alloc, BOOKINGS as usize) else {
-        return Err(anyhow!("no memory for the bookings"));
-    };
-    for i in 0..BOOKINGS {
-        let place = i.wrapping_mul(load.step) % BOOKINGS;
-        let booking = Booking {
-            resource: resource_of(load, place),
-            start: place * 10,
-            length: 4,
-        };
-        if roll.book(booking).is_err() {
-            return Err(anyhow!("a booking was refused"));
-        }
+impl Load {
+    /// The number of the resource that comes `i`-th.
+    fn resource(&self, i: Tick) -> usize {
+        i.checked_rem(self.resources).unwrap_or(0) as usize
     }
-    Ok(roll)
-}
 
-/// Asks for more ticks than any gap between two bookings has, and adds up the answers.
-fn asked(roll: &Roll, load: Load) -> u64 {
-    let ticks = load.resources.saturating_mul(10);
-    let mut sum = 0u64;
-    for i in 0..QUESTIONS {
-        if let Some(start) = roll.earliest(resource_of(load, i), i % 100, ticks) {
-            sum = sum.wrapping_add(u64::from(start));
+    /// A timetable with these bookings.
+    fn booked(&self, alloc: Global) -> anyhow::Result<Roll> {
+        let mut roll = Roll::new(alloc, BOOKINGS as usize)?;
+        for i in 0..BOOKINGS {
+            let place = i.wrapping_mul(self.step) % BOOKINGS;
+            let booking = Booking {
+                resource: self.resource(place),
+                start: place * 10,
+                length: 4,
+            };
+            roll.book(booking).context("a booking was refused")?;
         }
+        Ok(roll)
     }
-    sum
+
+    /// Asks for more ticks than any gap between two bookings has, and adds up the answers.
+    fn asked(&self, roll: &Roll) -> u64 {
+        let ticks = self.resources.saturating_mul(10);
+        (0..QUESTIONS)
+            .filter_map(|i| roll.earliest(self.resource(i), i % 100, ticks))
+            .map(u64::from)
+            .fold(0, u64::wrapping_add)
+    }
 }
 
 fn main(rt: HostRuntime) -> anyhow::Result<()> {
     let timed = env::args(&rt)?.count() > 1;
     for load in LOADS {
-        let roll = booked(rt.alloc(), load)?;
+        let roll = load.booked(rt.alloc())?;
         let begin = Instant::now(&rt)?;
-        let sum = asked(&roll, load);
+        let sum = load.asked(&roll);
         let took = begin.elapsed(&rt)?.as_micros();
         let name = load.name;
         println!(rt; "{name}: {QUESTIONS} answers add up to {sum}")?;

@@ -25,17 +25,14 @@ pub fn book_earliest<T: Writable>(
     ensures is_earliest { IfOk result (λ start. IsEarliest (T.meaning table.old) resource from ticks start) }
     ensures keeps_sound { Sound (T.meaning table.old) → Sound (T.meaning table.new) }
 {
-    match table.earliest(resource, from, ticks) {
-        Some(start) => {
-            table.book(Booking {
-                resource,
-                start,
-                length: ticks,
-            })?;
-            Ok(start)
-        }
-        None => Err(Refusal::NoStart(resource)),
-    }
+    let earliest = table.earliest(resource, from, ticks);
+    let start = earliest.ok_or(Refusal::NoStart(resource))?;
+    table.book(Booking {
+        resource,
+        start,
+        length: ticks,
+    })?;
+    Ok(start)
 }
 
 /// Books the earliest and takes it back: the table is then what it was.

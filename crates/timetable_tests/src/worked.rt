@@ -9,14 +9,8 @@ use timetable::{Askable, Roll, RollError, Writable};
 
 /// The number and the detail of a refusal; 0 and 0 where there is none.
 fn outcome<T: Drop>(res: Result<T, Refusal>) -> (u32, usize) {
-    match res {
-        Ok(_) => (0, 0),
-        Err(refusal) => (refusal.number(), refusal.detail()),
-    }
-}
-
-fn roll(heap: Global, most: usize) -> Result<Roll, Fail> {
-    Ok(Roll::new(heap, most)?)
+    res.err()
+        .map_or((0, 0), |refusal| (refusal.number(), refusal.detail()))
 }
 
 fn span(resource: usize, start: u32, length: u32) -> Booking {
@@ -29,10 +23,10 @@ fn span(resource: usize, start: u32, length: u32) -> Booking {
 
 /// Resource 0 is taken from 10 to 14 and from 0 to 4, and resource 1 from 4 to 64.
 fn busy(heap: Global) -> Result<Roll, Fail> {
-    let mut table = roll(heap, 3)?;
-    let _ = table.book(span(0, 10, 4));
-    let _ = table.book(span(1, 4, 60));
-    let _ = table.book(span(0, 0, 4));
+    let mut table = Roll::new(heap, 3)?;
+    table.book(span(0, 10, 4))?;
+    table.book(span(1, 4, 60))?;
+    table.book(span(0, 0, 4))?;
     Ok(table)
 }
 
@@ -53,7 +47,7 @@ fn gaps(rt: HostRuntime) -> Result<(), Fail> {
 
 #[test]
 fn horizon(rt: HostRuntime) -> Result<(), Fail> {
-    let table = roll(rt.alloc(), 1)?;
+    let table = Roll::new(rt.alloc(), 1)?;
     assert_eq!(rt; table.horizon(), 2_000_000_000);
     assert_eq!(rt; twice_horizon(&table), 4_000_000_000);
     assert_eq!(rt; table.earliest(0, 0, 2_000_000_000), Some(0));
@@ -73,7 +67,7 @@ fn any_numbers(rt: HostRuntime) -> Result<(), Fail> {
     assert_eq!(rt; table.earliest(0, 0, 0), None);
     assert_eq!(rt; table.earliest(0, last, 1), None);
     assert_eq!(rt; table.earliest(0, last, last), None);
-    assert!(rt; table.booking(usize::MAX).is_none());
+    assert_eq!(rt; table.booking(usize::MAX), None);
     assert!(rt; table.take_back().is_ok());
     assert_eq!(rt; outcome(table.book(span(200, last, 0))), (18, 200));
     assert_eq!(rt; outcome(table.book(span(0, last, last))), (18, 0));
@@ -84,17 +78,15 @@ fn any_numbers(rt: HostRuntime) -> Result<(), Fail> {
 #[test]
 fn in_the_order_made(rt: HostRuntime) -> Result<(), Fail> {
     let table = busy(rt.alloc())?;
-    let first = table.booking(0).ok_or("no booking 0")?;
-    let last = table.booking(2).ok_or("no booking 2")?;
-    assert!(rt; first.resource == 0 && first.start == 10 && first.length == 4);
-    assert!(rt; last.resource == 0 && last.start == 0 && last.length == 4);
-    assert!(rt; table.booking(3).is_none());
+    assert_eq!(rt; table.booking(0), Some(span(0, 10, 4)));
+    assert_eq!(rt; table.booking(2), Some(span(0, 0, 4)));
+    assert_eq!(rt; table.booking(3), None);
     Ok(())
 }
 
 #[test]
 fn refusals(rt: HostRuntime) -> Result<(), Fail> {
-    let mut table = roll(rt.alloc(), 2)?;
+    let mut table = Roll::new(rt.alloc(), 2)?;
     assert_eq!(rt; outcome(table.take_back()), (15, 0));
     assert_eq!(rt; outcome(table.book(span(5, 10, 4))), (0, 0));
     assert_eq!(rt; outcome(table.book(span(5, 13, 1))), (18, 5));
@@ -111,8 +103,7 @@ fn refusals(rt: HostRuntime) -> Result<(), Fail> {
 #[test]
 fn taken_back(rt: HostRuntime) -> Result<(), Fail> {
     let mut table = busy(rt.alloc())?;
-    let newest = table.take_back().ok().ok_or("nothing taken back")?;
-    assert!(rt; newest.resource == 0 && newest.start == 0 && newest.length == 4);
+    assert_eq!(rt; table.take_back(), Ok(span(0, 0, 4)));
     assert_eq!(rt; table.count(), 2);
     assert_eq!(rt; table.earliest(0, 0, 6), Some(0));
     assert_eq!(rt; table.earliest(0, 0, 11), Some(14));
@@ -126,12 +117,12 @@ fn sizes(rt: HostRuntime) -> Result<(), Fail> {
         Roll::new(rt.alloc(), usize::MAX).err(),
         Some(RollError::TooMany)
     );
-    let mut none = roll(rt.alloc(), 0)?;
+    let mut none = Roll::new(rt.alloc(), 0)?;
     assert_eq!(rt; none.most(), 0);
     assert_eq!(rt; outcome(none.book(span(0, 0, 1))), (17, 1));
-    let mut most = roll(rt.alloc(), 4096)?;
-    for start in 0..4096 {
-        assert_eq!(rt; outcome(most.book(span(3, 4095 - start, 1))), (0, 0));
+    let mut most = Roll::new(rt.alloc(), 4096)?;
+    for start in (0..4096).rev() {
+        assert_eq!(rt; outcome(most.book(span(3, start, 1))), (0, 0));
     }
     assert_eq!(rt; outcome(most.book(span(4, 0, 1))), (17, 1));
     assert_eq!(rt; most.earliest(3, 0, 1), Some(4096));
@@ -140,21 +131,17 @@ fn sizes(rt: HostRuntime) -> Result<(), Fail> {
 
 #[test]
 fn two_layers(rt: HostRuntime) -> Result<(), Fail> {
-    let mut table = Layer::over(Layer::over(roll(rt.alloc(), 4)?));
-    assert_eq!(rt; book_earliest(&mut table, 0, 0, 4).ok(), Some(0));
-    assert_eq!(rt; book_earliest(&mut table, 0, 0, 6).ok(), Some(4));
-    assert_eq!(rt; book_earliest(&mut table, 0, 1, 2).ok(), Some(10));
-    let tried = try_earliest(&mut table, 0, 0, 5).ok().ok_or("not tried")?;
-    assert!(rt; tried.resource == 0 && tried.start == 12 && tried.length == 5);
+    let mut table = Layer::over(Layer::over(Roll::new(rt.alloc(), 4)?));
+    assert_eq!(rt; book_earliest(&mut table, 0, 0, 4), Ok(0));
+    assert_eq!(rt; book_earliest(&mut table, 0, 0, 6), Ok(4));
+    assert_eq!(rt; book_earliest(&mut table, 0, 1, 2), Ok(10));
+    assert_eq!(rt; try_earliest(&mut table, 0, 0, 5), Ok(span(0, 12, 5)));
     assert_eq!(rt; room_left(&table), 1);
     assert_eq!(rt;
         outcome(book_earliest(&mut table, 0, 0, 2_000_000_000)),
         (18, 0)
     );
-    assert_eq!(rt;
-        book_earliest(&mut table, 16, 0, 2_000_000_000).ok(),
-        Some(0)
-    );
+    assert_eq!(rt; book_earliest(&mut table, 16, 0, 2_000_000_000), Ok(0));
     assert_eq!(rt; outcome(book_earliest(&mut table, 1, 0, 1)), (17, 1));
     assert_eq!(rt; room_left(&table), 0);
     Ok(())

@@ -1,104 +1,47 @@
 //! Rules H and I: no two tasks share a tick of a machine, and no two transfers one of a link.
 ghost use Rattle.std.specs.Prelude.{◌≡◌};
+ghost use Rattle.std.specs.List.{list_any, flat_map};
+ghost use Rattle.std.specs.Option.{option_to_list};
 ghost use Rattle.model.specs.Bookings.{collide};
-ghost use Rattle.model.specs.Data.{job_of, net_of};
-ghost use Rattle.model.specs.Plans.{plan_of};
-ghost use Rattle.routes.specs.Legs.{legs};
-ghost use Rattle.marker.specs.Table.{Tells};
-ghost use Rattle.marker.specs.Verdicts.{any, machines_test, links_test};
+ghost use Rattle.marker.specs.Markings.{on};
+ghost use Rattle.marker.specs.Verdicts.{machines_test, links_test};
 
-use crate::legs::LegTable;
-use crate::legs::table::leg_of;
+use crate::marking::Marking;
+use model::Booking;
 use model::plan::measures::finish;
-use model::{Booking, Job, Plan};
 use routes::Routes;
 
-/// Whether two tasks share a tick of a machine.
-pub(crate) fn machines_test<R: Routes>(
-    routes: &R,
-    job: &Job,
-    plan: &Plan,
-    t: usize,
-    u: usize,
-) -> bool
-    ensures { result ≡ machines_test (job_of job.now) (net_of (R.Routes.over routes.now)) (R.Routes.route routes.now) (plan_of plan.now) t u }
+/// Whether a leg collides with one of these.
+fn meets(a: &Booking, legs: &[Option<Booking>]) -> bool
+    ensures { result ≡ list_any (collide a.now) (flat_map option_to_list legs.now) }
 {
-    match plan.task(t) {
-        Some(p) => match plan.task(u) {
-            Some(q) => {
-                if t < u && p.station == q.station {
-                    let p_end = finish(job, routes.network(), t, p);
-                    let q_end = finish(job, routes.network(), u, q);
-                    u64::from(p.start.max(q.start)) < p_end.min(q_end)
-                } else {
-                    false
-                }
-            }
-            None => false,
-        },
-        None => false,
-    }
+    legs.iter().flatten().any(|b| a.collides(b))
 }
 
-/// Whether a leg collides with one of edge `j`'s.
-pub(crate) fn leg_meets<R: Routes>(
-    routes: &R,
-    job: &Job,
-    plan: &Plan,
-    table: &LegTable,
-    a: Booking,
-    j: usize,
-) -> bool
-    requires { Tells table.now (job_of job.now) (net_of (R.Routes.over routes.now)) (R.Routes.route routes.now) (plan_of plan.now) }
-    ensures { result ≡ any (legs (job_of job.now) (net_of (R.Routes.over routes.now)) (R.Routes.route routes.now) (plan_of plan.now) j) (λ b. collide (a) b) }
-{
-    for k in 0..plan.start_count(j) {
-        if let Some(b) = leg_of(routes, job, plan, table, j, k) {
-            if a.collides(&b) {
-                return true;
-            }
+impl<'a, R: Routes> Marking<'a, R> {
+    /// Whether two tasks share a tick of a machine.
+    pub(crate) fn machines_test(&self, t: usize, u: usize) -> bool
+        ensures { result ≡ on self.now machines_test t u }
+    {
+        if let Some(p) = self.plan.task(t)
+            && let Some(q) = self.plan.task(u)
+            && t < u
+            && p.station == q.station
+        {
+            let network = self.routes.network();
+            let p_end = finish(self.job, network, t, p);
+            let q_end = finish(self.job, network, u, q);
+            u64::from(p.start.max(q.start)) < p_end.min(q_end)
+        } else {
+            false
         }
     }
-    false
-}
 
-/// Whether some leg of edge `i` collides with one of edge `j`'s.
-pub(crate) fn edges_meet<R: Routes>(
-    routes: &R,
-    job: &Job,
-    plan: &Plan,
-    table: &LegTable,
-    i: usize,
-    j: usize,
-) -> bool
-    requires { Tells table.now (job_of job.now) (net_of (R.Routes.over routes.now)) (R.Routes.route routes.now) (plan_of plan.now) }
-    ensures { result ≡ any (legs (job_of job.now) (net_of (R.Routes.over routes.now)) (R.Routes.route routes.now) (plan_of plan.now) i) (λ a. any (legs (job_of job.now) (net_of (R.Routes.over routes.now)) (R.Routes.route routes.now) (plan_of plan.now) j) (λ b. collide a b)) }
-{
-    for k in 0..plan.start_count(i) {
-        if let Some(a) = leg_of(routes, job, plan, table, i, k) {
-            if leg_meets(routes, job, plan, table, a, j) {
-                return true;
-            }
-        }
-    }
-    false
-}
-
-/// Whether two transfers share a tick of a link.
-pub(crate) fn links_test<R: Routes>(
-    routes: &R,
-    job: &Job,
-    plan: &Plan,
-    table: &LegTable,
-    i: usize,
-    j: usize,
-) -> bool
-    requires { Tells table.now (job_of job.now) (net_of (R.Routes.over routes.now)) (R.Routes.route routes.now) (plan_of plan.now) }
-    ensures { result ≡ links_test (job_of job.now) (net_of (R.Routes.over routes.now)) (R.Routes.route routes.now) (plan_of plan.now) i j }
-{
-    if i < j {
-        edges_meet(routes, job, plan, table, i, j)
-    } else {
-        false
+    /// Whether two transfers share a tick of a link.
+    pub(crate) fn links_test(&self, i: usize, j: usize) -> bool
+        ensures { result ≡ on self.now links_test i j }
+    {
+        let others = self.legs(j);
+        i < j && self.legs(i).iter().flatten().any(|a| meets(a, others))
     }
 }

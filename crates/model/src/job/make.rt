@@ -1,85 +1,61 @@
 //! The maker of jobs.
-ghost use Rattle.std.specs.Prelude.{◌≡◌, ◌≤◌, true, false, ◌↔◌, length, is_ok, IfOk};
-ghost use Rattle.model.specs.Lengths.{amount_ok};
-ghost use Rattle.model.specs.JobLimits.{same_pair, joins_pair, edge_refusal, task_refusal, job_refusal, JobLimits};
-ghost use Rattle.model.specs.Refusals.{first_refusal, refusal_of};
+ghost use Rattle.std.specs.Prelude.{◌≡◌, true, ◌↔◌, take, is_ok, IfOk};
+ghost use Rattle.std.specs.List.{list_any};
+ghost use Rattle.model.specs.JobLimits.{same_pair, edge_refusal, task_refusal, job_refusal, JobLimits};
+ghost use Rattle.model.specs.Refusals.{refusal_of};
 
 use super::{Edge, Job};
-use crate::refusal::Refusal;
+use crate::plan::{TASK_ROWS, TRANSFER_ROWS};
+use crate::refusal::{Refusal, check_each};
 
-/// Whether a work or a volume is within its limits, 1 to 1,000,000.
-fn is_amount(amount: u32) -> bool
-    ensures { result ≡ amount_ok amount }
+/// Refuses an amount that is outside its limits, 1 to 1,000,000; `place` is where its list has it.
+fn check_amount(place: usize, amount: u32) -> Result<(), Refusal>
+    ensures { refusal_of result ≡ task_refusal place amount }
 {
-    1 <= amount && amount <= 1_000_000
-}
-
-/// Whether one of `edges` joins the same pair of tasks as `edge`.
-fn joins_pair(edge: &Edge, edges: &[Edge]) -> bool
-    ensures { result ≡ joins_pair edge.now edges.now }
-{
-    for other in edges {
-        if edge.from == other.from && edge.to == other.to {
-            return true;
-        }
-    }
-    false
-}
-
-/// What is wrong with the first task that is refused.
-fn works_refusal(works: &[u32]) -> Option<Refusal>
-    ensures { result ≡ first_refusal task_refusal 0 works.now }
-{
-    for (t, work) in works.iter().enumerate() {
-        if !is_amount(*work) {
-            return Some(Refusal::ValueLimits(t));
-        }
-    }
-    None
-}
-
-/// What is wrong with the edge at place `i` of `edges`, in a job of `tasks` tasks.
-fn edge_refusal(tasks: usize, edges: &[Edge], i: usize, edge: &Edge) -> Option<Refusal>
-    requires { i ≤ length edges.now }
-    ensures { result ≡ edge_refusal tasks edges.now i edge.now }
-{
-    if !is_amount(edge.volume) {
-        return Some(Refusal::ValueLimits(i));
-    }
-    let rises = edge.from < edge.to && edge.to < tasks;
-    if rises && !joins_pair(edge, &edges[0..i]) {
-        None
+    if (1..=1_000_000).contains(&amount) {
+        Ok(())
     } else {
-        Some(Refusal::BadEdge(i))
+        Err(Refusal::ValueLimits(place))
     }
 }
 
-/// What is wrong with the first edge that is refused.
-fn edges_refusal(tasks: usize, edges: &[Edge]) -> Option<Refusal>
-    ensures { result ≡ first_refusal (edge_refusal tasks edges.now) 0 edges.now }
+/// Whether one of the first `count` edges joins the same pair of tasks as `edge`.
+fn joins_pair(edge: &Edge, edges: &[Edge], count: usize) -> bool
+    ensures { result ≡ list_any (same_pair edge.now) (take count edges.now) }
 {
-    for (i, edge) in edges.iter().enumerate() {
-        if let Some(refusal) = edge_refusal(tasks, edges, i, edge) {
-            return Some(refusal);
-        }
-    }
-    None
+    edges
+        .iter()
+        .take(count)
+        .any(|other| edge.from == other.from && edge.to == other.to)
 }
 
-/// Why the lists make no job, if they make none.
-fn job_refusal(works: &[u32], edges: &[Edge]) -> Option<Refusal>
-    ensures { result ≡ job_refusal works.now edges.now }
+/// Refuses the edge at place `i` of `edges`, in a job of `tasks` tasks, if something is wrong with it.
+#[tactic(auto, using(crate::proofs::Jobs::joins_any))]
+fn check_edge(tasks: usize, edges: &[Edge], i: usize, edge: &Edge) -> Result<(), Refusal>
+    ensures { refusal_of result ≡ edge_refusal tasks edges.now i edge.now }
 {
-    if works.len() < 1 || works.len() > 128 {
-        return Some(Refusal::ListLength(works.len()));
+    check_amount(i, edge.volume)?;
+    let rises = edge.from < edge.to && edge.to < tasks;
+    if rises && !joins_pair(edge, edges, i) {
+        Ok(())
+    } else {
+        Err(Refusal::BadEdge(i))
     }
-    if edges.len() > 224 {
-        return Some(Refusal::ListLength(edges.len()));
+}
+
+/// Refuses lists that make no job.
+fn check_job(works: &[u32], edges: &[Edge]) -> Result<(), Refusal>
+    ensures { refusal_of result ≡ job_refusal works.now edges.now }
+{
+    let tasks = works.len();
+    if !(1..=TASK_ROWS).contains(&tasks) {
+        return Err(Refusal::ListLength(tasks));
     }
-    if let Some(refusal) = works_refusal(works) {
-        return Some(refusal);
+    if edges.len() > TRANSFER_ROWS {
+        return Err(Refusal::ListLength(edges.len()));
     }
-    edges_refusal(works.len(), edges)
+    check_each(works, |t, work| check_amount(t, *work))?;
+    check_each(edges, |i, edge| check_edge(tasks, edges, i, edge))
 }
 
 impl Job {
@@ -89,9 +65,7 @@ impl Job {
         ensures kept { IfOk result (λ j. (j.works ≡ works) × (j.edges ≡ edges)) }
         ensures limits { is_ok result ≡ true ↔ JobLimits works.items edges.items }
     {
-        match job_refusal(&works, &edges) {
-            Some(refusal) => Err(refusal),
-            None => Ok(Job { works, edges }),
-        }
+        check_job(&works, &edges)?;
+        Ok(Job { works, edges })
     }
 }

@@ -51,11 +51,7 @@ impl Network {
     pub fn is_machine(&self, s: usize) -> bool
         ensures { result ≡ is_machine (net_of self.now) s }
     {
-        match self.station(s) {
-            Some(Station::Machine(_)) => true,
-            Some(Station::Switch) => false,
-            None => false,
-        }
+        matches!(self.station(s), Some(Station::Machine(_)))
     }
 
     /// The speed of a machine; what is no machine has speed 0.
@@ -64,8 +60,7 @@ impl Network {
     {
         match self.station(s) {
             Some(Station::Machine(speed)) => speed,
-            Some(Station::Switch) => Speed { rate: 0 },
-            None => Speed { rate: 0 },
+            Some(Station::Switch) | None => Speed { rate: 0 },
         }
     }
 
@@ -73,19 +68,15 @@ impl Network {
     pub fn link_speed(&self, l: usize) -> Speed
         ensures { result ≡ link_speed (net_of self.now) l }
     {
-        match self.link(l) {
-            Some(link) => link.speed,
-            None => Speed { rate: 0 },
-        }
+        self.links
+            .get(l)
+            .map_or(Speed { rate: 0 }, |link| link.speed)
     }
 
     /// Whether a link is there and can carry a transfer from one station to the other.
     pub fn carries(&self, l: usize, from: usize, to: usize) -> bool
         ensures { result ≡ carries_at (net_of self.now) l from to }
     {
-        match self.link(l) {
-            Some(link) => link.carries(from, to),
-            None => false,
-        }
+        self.links.get(l).is_some_and(|link| link.carries(from, to))
     }
 }

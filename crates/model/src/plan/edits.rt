@@ -1,9 +1,11 @@
 //! Making and changing a plan.
-ghost use Rattle.std.specs.Prelude.{◌≡◌, [], if◌then◌else◌, Some, None, nat_lt};
-ghost use Rattle.model.specs.Plans.{plan_of, starts_of, blank_plan, with_task, with_starts, with_step, step_fits, last_step, without_last_step};
-ghost use Rattle.model.specs.Rows.{row_fits};
+ghost use Rattle.std.specs.Prelude.{◌≡◌, if◌then◌else◌, Some, None, nat_lt, is_ok};
+ghost use Rattle.model.specs.Plans.{plan_of, starts_of, blank_plan, with_task, with_starts, with_step, step_fits, step_answer, last_step, without_last_step};
+ghost use Rattle.model.specs.Rows.{row_fits, row_answer, task_answer};
 
+use super::error::PlanError;
 use super::{Placement, Plan, TASK_ROWS, TRANSFER_ROWS, TransferRow};
+use crate::network::MOST_STATIONS;
 
 impl Plan {
     /// A plan with no task placed, every transfer row empty, and no steps.
@@ -13,60 +15,70 @@ impl Plan {
         let blank: Option<Placement> = None;
         let empty = TransferRow::new();
         Plan {
-            tasks: [blank; 128],
-            transfers: [empty; 224],
-            steps: [0; 128],
+            tasks: [blank; TASK_ROWS],
+            transfers: [empty; TRANSFER_ROWS],
+            steps: [0; TASK_ROWS],
             step_count: 0,
         }
     }
 
-    /// Places a task; false, and nothing is written, where the task is past the table or the station above 15.
-    pub fn set_task(&mut self, t: usize, row: Placement) -> bool
-        ensures answer { result ≡ row_fits t row }
-        ensures plan { plan_of self.new ≡ (if result then with_task (plan_of self.old) t (Some row) else plan_of self.old) }
-    {
-        if t >= TASK_ROWS || row.station > 15 {
-            return false;
-        }
-        self.tasks[t] = Some(row);
-        true
-    }
-
-    /// Takes a task out of the plan; false where it is past the table.
-    pub fn clear_task(&mut self, t: usize) -> bool
-        ensures answer { result ≡ nat_lt t 128 }
-        ensures plan { plan_of self.new ≡ (if result then with_task (plan_of self.old) t None else plan_of self.old) }
+    /// Places a task. Nothing is written where the task is past the table or the station above 15.
+    pub fn set_task(&mut self, t: usize, row: Placement) -> Result<(), PlanError>
+        ensures answer { result ≡ task_answer t row }
+        ensures fits { is_ok result ≡ row_fits t row }
+        ensures plan { plan_of self.new ≡ (if is_ok result then with_task (plan_of self.old) t (Some row) else plan_of self.old) }
     {
         if t >= TASK_ROWS {
-            return false;
+            return Err(PlanError::NoSuchRow);
+        }
+        if row.station >= MOST_STATIONS {
+            return Err(PlanError::NoSuchStation);
+        }
+        self.tasks[t] = Some(row);
+        Ok(())
+    }
+
+    /// Takes a task out of the plan, unless it is past the table.
+    pub fn clear_task(&mut self, t: usize) -> Result<(), PlanError>
+        ensures answer { result ≡ row_answer 128 t }
+        ensures fits { is_ok result ≡ nat_lt t 128 }
+        ensures plan { plan_of self.new ≡ (if is_ok result then with_task (plan_of self.old) t None else plan_of self.old) }
+    {
+        if t >= TASK_ROWS {
+            return Err(PlanError::NoSuchRow);
         }
         self.tasks[t] = None;
-        true
+        Ok(())
     }
 
-    /// Writes a transfer's row; false where it is past the table.
-    pub fn set_transfer(&mut self, e: usize, row: TransferRow) -> bool
-        ensures answer { result ≡ nat_lt e 224 }
-        ensures plan { plan_of self.new ≡ (if result then with_starts (plan_of self.old) e (starts_of row) else plan_of self.old) }
+    /// Writes a transfer's row, unless it is past the table.
+    pub fn set_transfer(&mut self, e: usize, row: TransferRow) -> Result<(), PlanError>
+        ensures answer { result ≡ row_answer 224 e }
+        ensures fits { is_ok result ≡ nat_lt e 224 }
+        ensures plan { plan_of self.new ≡ (if is_ok result then with_starts (plan_of self.old) e (starts_of row) else plan_of self.old) }
     {
         if e >= TRANSFER_ROWS {
-            return false;
+            return Err(PlanError::NoSuchRow);
         }
         self.transfers[e] = row;
-        true
+        Ok(())
     }
 
-    /// Adds a step; false where the task is past the table or there is no room.
-    pub fn add_step(&mut self, t: usize) -> bool
-        ensures answer { result ≡ step_fits (plan_of self.old) t }
-        ensures plan { plan_of self.new ≡ (if result then with_step (plan_of self.old) t else plan_of self.old) }
+    /// Adds a step, unless the task is past the table or there is no room.
+    pub fn add_step(&mut self, t: usize) -> Result<(), PlanError>
+        ensures answer { result ≡ step_answer (plan_of self.old) t }
+        ensures fits { is_ok result ≡ step_fits (plan_of self.old) t }
+        ensures plan { plan_of self.new ≡ (if is_ok result then with_step (plan_of self.old) t else plan_of self.old) }
     {
-        if t >= TASK_ROWS || self.step_count >= TASK_ROWS {
-            return false;
+        if t >= TASK_ROWS {
+            return Err(PlanError::NoSuchRow);
+        }
+        if self.step_count >= TASK_ROWS {
+            return Err(PlanError::Full);
         }
         self.steps[self.step_count] = t;
         self.step_count += 1;
-        true
+        Ok(())
     }
 
     /// Removes the last step and gives its task.
@@ -74,10 +86,7 @@ impl Plan {
         ensures answer { result ≡ last_step (plan_of self.old) }
         ensures plan { plan_of self.new ≡ without_last_step (plan_of self.old) }
     {
-        if self.step_count == 0 {
-            return None;
-        }
-        self.step_count -= 1;
+        self.step_count = self.step_count.checked_sub(1)?;
         Some(self.steps[self.step_count])
     }
 }

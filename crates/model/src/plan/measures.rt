@@ -3,7 +3,7 @@ ghost use Rattle.std.specs.Prelude.{◌≡◌, ◌^◌, ◌<◌, ◌≤◌};
 ghost use Rattle.model.specs.Data.{job_of, net_of, task_length, transfer_length};
 ghost use Rattle.model.specs.Plans.{plan_of, finish, placed_count, plan_length};
 
-use super::{Placement, Plan, TASK_ROWS};
+use super::{Placement, Plan};
 use crate::job::Job;
 use crate::network::Network;
 use crate::speed::ticks;
@@ -32,26 +32,22 @@ pub fn finish(job: &Job, network: &Network, t: usize, row: Placement) -> u64
 }
 
 /// How many tasks are placed.
+#[tactic(auto, using(crate::proofs::Counts::placed_by))]
 pub fn placed_count(plan: &Plan) -> usize
     ensures { result ≡ placed_count (plan_of plan.now) }
 {
-    let mut count = 0;
-    for t in 0..TASK_ROWS {
-        if let Some(_) = plan.task(t) {
-            count += 1;
-        }
-    }
-    count
+    plan.tasks.iter().filter(|row| row.is_some()).count()
 }
 
 /// The length of a plan: the greatest finish of a placed task, or 0.
 pub fn plan_length(job: &Job, network: &Network, plan: &Plan) -> u64
     ensures { result ≡ plan_length (job_of job.now) (net_of network.now) (plan_of plan.now) }
 {
+    // A loop, since a task's number goes into its finish, and the greatest of none is 0.
     let mut latest: u64 = 0;
-    for t in 0..TASK_ROWS {
-        if let Some(row) = plan.task(t) {
-            latest = latest.max(finish(job, network, t, row));
+    for (t, row) in plan.tasks.iter().enumerate() {
+        if let Some(row) = row {
+            latest = latest.max(finish(job, network, t, *row));
         }
     }
     latest

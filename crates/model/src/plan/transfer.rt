@@ -1,8 +1,9 @@
 //! The row of one transfer.
-ghost use Rattle.std.specs.Prelude.{◌≡◌, [], ◌∷◌, ◌++◌, length, if◌then◌else◌, nat_lt};
+ghost use Rattle.std.specs.Prelude.{◌≡◌, [], ◌∷◌, ◌++◌, length, if◌then◌else◌, nat_lt, is_ok};
 ghost use Rattle.std.specs.List.{slice_get};
-ghost use Rattle.model.specs.Plans.{starts_of};
+ghost use Rattle.model.specs.Plans.{starts_of, start_answer};
 
+use super::error::PlanError;
 use super::{MOST_HOPS, TransferRow};
 use crate::tick::Tick;
 
@@ -12,7 +13,7 @@ impl TransferRow {
         ensures { starts_of result ≡ [] }
     {
         TransferRow {
-            starts: [0; 15],
+            starts: [0; MOST_HOPS],
             count: 0,
         }
     }
@@ -38,16 +39,17 @@ impl TransferRow {
         self.starts().get(k).copied()
     }
 
-    /// Adds the start on the next hop; false where the row is full.
-    pub fn push(&mut self, start: Tick) -> bool
-        ensures answer { result ≡ nat_lt (length (starts_of self.old)) 15 }
-        ensures row { starts_of self.new ≡ (if result then starts_of self.old ++ start ∷ [] else starts_of self.old) }
+    /// Adds the start on the next hop, unless the row is full.
+    pub fn push(&mut self, start: Tick) -> Result<(), PlanError>
+        ensures answer { result ≡ start_answer (starts_of self.old) }
+        ensures fits { is_ok result ≡ nat_lt (length (starts_of self.old)) 15 }
+        ensures row { starts_of self.new ≡ (if is_ok result then starts_of self.old ++ start ∷ [] else starts_of self.old) }
     {
         if self.count >= MOST_HOPS {
-            return false;
+            return Err(PlanError::Full);
         }
         self.starts[self.count] = start;
         self.count += 1;
-        true
+        Ok(())
     }
 }

@@ -4,7 +4,7 @@ ghost use Rattle.std.specs.Option.{option_map};
 ghost use Rattle.std.specs.List.{slice_get};
 ghost use Rattle.model.specs.Plans.{plan_of, starts_of, task_row, starts};
 
-use super::{Placement, Plan, TASK_ROWS, TRANSFER_ROWS, TransferRow};
+use super::{Placement, Plan, TransferRow};
 use crate::tick::Tick;
 
 impl Plan {

@@ -19,12 +19,7 @@ use model::Network;
 fn settled_at<L: Length>(settled: &[Settled<L>], t: usize) -> Option<Settled<L>>
     ensures { result ≡ find (λ u. u.station == t) settled.now }
 {
-    for a in settled {
-        if a.station == t {
-            return Some(*a);
-        }
-    }
-    None
+    settled.iter().find(|a| a.station == t).copied()
 }
 
 /// The hop at place `i` of the way to station `t`, found by walking back from `t`.
@@ -36,6 +31,7 @@ fn hop_among<L: Length>(settled: &[Settled<L>], t: usize, i: usize) -> Option<Ho
     if i >= a.hops {
         return None;
     }
+    // One step back for each hop that comes after the one asked for.
     for _back in i + 1..a.hops {
         a = settled[a.from];
     }
@@ -50,10 +46,7 @@ impl<L: Length> SearchedRoutes<L> {
     fn settled_from(&self, from: usize) -> &[Settled<L>]
         ensures { result.now ≡ search_known L.before L.longer (net_of self.now.network) L.starting from }
     {
-        match self.settled.get(from) {
-            Some(settled) => settled,
-            None => &[],
-        }
+        self.settled.get(from).map_or(&[], |settled| settled)
     }
 }
 
@@ -69,8 +62,7 @@ impl<L: Length> Routes for SearchedRoutes<L> {
     }
 
     fn route_length(&self, from: usize, to: usize) -> Option<usize> {
-        let goal = settled_at(self.settled_from(from), to)?;
-        Some(goal.hops)
+        settled_at(self.settled_from(from), to).map(|goal| goal.hops)
     }
 
     fn hop(&self, from: usize, to: usize, i: usize) -> Option<Hop> {

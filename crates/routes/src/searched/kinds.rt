@@ -18,8 +18,7 @@ pub fn routes_by_hops(
     ensures kept { IfOk result (λ r. r.network ≡ network) }
     ensures fewest { IfOk result (λ r. FewestHops (net_of r.network) (searched_route fewer one_hop_more (net_of r.network) no_hop)) }
 {
-    let routes = SearchedRoutes::new(alloc, network)?;
-    Ok(routes)
+    SearchedRoutes::new(alloc, network)
 }
 
 /// The routes of a network whose links are the least slow together.
@@ -30,6 +29,5 @@ pub fn routes_by_slowness(
     ensures kept { IfOk result (λ r. r.network ≡ network) }
     ensures fastest { IfOk result (λ r. LeastSlow (net_of r.network) (searched_route faster slower_by (net_of r.network) no_delay)) }
 {
-    let routes = SearchedRoutes::new(alloc, network)?;
-    Ok(routes)
+    SearchedRoutes::new(alloc, network)
 }

@@ -19,10 +19,7 @@ impl WrittenRoutes {
         if from >= stations || to >= stations {
             return None;
         }
-        match &self.rows[stations * from + to] {
-            Some(hops) => Some(hops),
-            None => None,
-        }
+        self.rows[stations * from + to].as_deref()
     }
 }
 
@@ -38,16 +35,10 @@ impl Routes for WrittenRoutes {
     }
 
     fn route_length(&self, from: usize, to: usize) -> Option<usize> {
-        match self.find(from, to) {
-            Some(hops) => Some(hops.len()),
-            None => None,
-        }
+        self.find(from, to).map(|hops| hops.len())
     }
 
     fn hop(&self, from: usize, to: usize, i: usize) -> Option<Hop> {
-        match self.find(from, to) {
-            Some(hops) => { if i < hops.len() { Some(hops[i]) } else { None } }
-            None => None,
-        }
+        self.find(from, to)?.get(i).copied()
     }
 }

@@ -9,65 +9,57 @@ ghost use Rattle.routes.specs.Lawful.{LawfulTable, FirstBroken};
 use super::WrittenRoutes;
 use crate::hop::Hop;
 use crate::walk::is_route;
+use model::network::MOST_STATIONS;
 use model::{Network, Refusal};
 
 /// Whether `row` keeps the law of the pair: empty from a station to itself, else none or a route.
-fn keeps_law(network: &Network, from: usize, to: usize, row: &Option<Vec<Hop>>) -> bool
-    ensures { result ≡ keeps_law (net_of network.now) from to (option_map vec_items row.now) }
+fn keeps_law(network: &Network, from: usize, to: usize, row: Option<&[Hop]>) -> bool
+    ensures { result ≡ keeps_law (net_of network.now) from to (option_map (λ hops. hops.now) row.entry) }
 {
-    match row {
-        Some(hops) => {
-            if from == to {
-                hops.is_empty()
-            } else {
-                is_route(network, from, to, hops)
-            }
-        }
-        None => from != to,
+    if from == to {
+        row.is_some_and(|hops| hops.is_empty())
+    } else {
+        row.is_none_or(|hops| is_route(network, from, to, hops))
     }
 }
 
-/// What is wrong with the row of a pair of stations.
-fn row_refusal(
+/// Refuses the row of a pair of stations if it is missing or breaks a law.
+fn check_row(
     network: &Network,
     rows: &[Option<Vec<Hop>>],
     from: usize,
     to: usize,
-) -> Option<Refusal>
+) -> Result<(), Refusal>
     requires { (from < 16) × (to < 16) }
-    ensures { result ≡ row_refusal (net_of network.now) (rows_of rows.now) from to }
+    ensures { refusal_of result ≡ row_refusal (net_of network.now) (rows_of rows.now) from to }
 {
-    let place = network.station_count() * from + to;
-    if place < rows.len() && keeps_law(network, from, to, &rows[place]) {
-        None
+    let row = rows.get(network.station_count() * from + to);
+    if row.is_some_and(|row| keeps_law(network, from, to, row.as_deref())) {
+        Ok(())
     } else {
-        Some(Refusal::BadRoute(16 * from + to))
+        Err(Refusal::BadRoute(MOST_STATIONS * from + to))
     }
 }
 
-/// What is wrong with the first row from a station that is refused.
-fn origin_refusal(network: &Network, rows: &[Option<Vec<Hop>>], from: usize) -> Option<Refusal>
+/// Refuses the first row from a station that is missing or breaks a law.
+fn check_origin(network: &Network, rows: &[Option<Vec<Hop>>], from: usize) -> Result<(), Refusal>
     requires { from < 16 }
-    ensures { result ≡ origin_refusal (net_of network.now) (rows_of rows.now) from }
+    ensures { refusal_of result ≡ origin_refusal (net_of network.now) (rows_of rows.now) from }
 {
     for to in 0..network.station_count() {
-        if let Some(refusal) = row_refusal(network, rows, from, to) {
-            return Some(refusal);
-        }
+        check_row(network, rows, from, to)?;
     }
-    None
+    Ok(())
 }
 
-/// What is wrong with the first row that is refused.
-fn written_refusal(network: &Network, rows: &[Option<Vec<Hop>>]) -> Option<Refusal>
-    ensures { result ≡ written_refusal (net_of network.now) (rows_of rows.now) }
+/// Refuses the first row that is missing or breaks a law.
+fn check_rows(network: &Network, rows: &[Option<Vec<Hop>>]) -> Result<(), Refusal>
+    ensures { refusal_of result ≡ written_refusal (net_of network.now) (rows_of rows.now) }
 {
     for from in 0..network.station_count() {
-        if let Some(refusal) = origin_refusal(network, rows, from) {
-            return Some(refusal);
-        }
+        check_origin(network, rows, from)?;
     }
-    None
+    Ok(())
 }
 
 impl WrittenRoutes {
@@ -78,9 +70,7 @@ impl WrittenRoutes {
         ensures lawful { is_ok result ≡ true ↔ LawfulTable (net_of network) (rows_of rows.items) }
         ensures broken { IfErr result (FirstBroken (net_of network) (rows_of rows.items)) }
     {
-        match written_refusal(&network, &rows) {
-            Some(refusal) => Err(refusal),
-            None => Ok(WrittenRoutes { network, rows }),
-        }
+        check_rows(&network, &rows)?;
+        Ok(WrittenRoutes { network, rows })
     }
 }

@@ -4,7 +4,6 @@ use Rattle.model.specs.Data.{net_of}
 use Rattle.routes.specs.Hops.{hops_of, reached}
 use Rattle.routes.proofs.Along.{here, sound, is_hops, not_nth, reached_start}
 use Rattle.routes_tests.proofs.walked.Goals as goal
-use Rattle.routes_tests.proofs.walked.Goals.{in-Some, in_default}
 
 pub loop-i-init : goal.loop-i-init
 loop-i-init g c = sym (reached_start c.args.from (hops_of (g.R.Routes.route c.args.routes.now c.args.from c.args.to)))
@@ -12,16 +11,15 @@ loop-i-init g c = sym (reached_start c.args.from (hops_of (g.R.Routes.route c.ar
 pub loop-i-preserved : goal.loop-i-preserved
 loop-i-preserved g c =
     let r = c.args.routes.now in
-    let o = g.R.Routes.route r c.args.from c.args.to in
-    elim c.match-hop.branch [
-      | in-Some w ↦
-          let at = here (net_of (g.R.Routes.over r)) (g.R.Routes.route r) (g.met.R.Routes.keeps r) c.args.from c.args.to c.loop-i.i w.in-Some.hop (sym w.in-Some.ensures) in
-          w.here-is ∙ sym at.arrives
-      | in_default w ↦
-          let past = not_nth (hops_of o) c.loop-i.i (sym w.in_default.ensures) in
-          let long = (is_hops o c.in_ok-count.count c.in_ok-count.ensures).1 in
-          absurd (omega (arith, past, long, c.loop-i-test.true))
-    ]
+    let at = here (net_of (g.R.Routes.over r)) (g.R.Routes.route r) (g.met.R.Routes.keeps r) c.args.from c.args.to c.loop-i.i c.in_ok-here.field-0 (sym c.in_ok-here.ensures) in
+    sym at.arrives
+
+pub returns-in_err-here : goal.returns-in_err-here
+returns-in_err-here g c =
+    let o = g.R.Routes.route c.args.routes.now c.args.from c.args.to in
+    let past = not_nth (hops_of o) c.loop-i.i (sym c.in_err-here.ensures) in
+    let long = (is_hops o c.in_ok-count.count c.in_ok-count.ensures).1 in
+    absurd (omega (arith, past, long, c.loop-i-test.true))
 
 pub returns : goal.returns
 returns g c =

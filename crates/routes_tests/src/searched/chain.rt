@@ -28,12 +28,8 @@ const CHAIN: Shape = Shape {
 /// From end to end there are 15 hops, with the slowness 15,000,000.
 #[test]
 fn chain(rt: HostRuntime) -> Result<(), Fail> {
-    let mut up = Vec::new(rt.alloc());
-    let mut down = Vec::new(rt.alloc());
-    for l in 0..15 {
-        up.push((l, l + 1))?;
-        down.push((14 - l, 14 - l))?;
-    }
+    let up: Vec<(usize, usize)> = (0..15).map(|l| (l, l + 1)).collect(rt.alloc())?;
+    let down: Vec<(usize, usize)> = (0..15).rev().map(|l| (l, l)).collect(rt.alloc())?;
     let ways: [Way; 4] = [
         (0, 15, Some(up.as_slice())),
         (15, 0, Some(down.as_slice())),

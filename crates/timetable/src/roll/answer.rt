@@ -32,12 +32,12 @@ impl Askable for Roll {
         if ticks == 0 || resource > LAST_RESOURCE {
             return None;
         }
-        let start = self.by_start.first_clear(resource, from, ticks);
-        if start + u64::from(ticks) <= u64::from(HORIZON) {
-            Some(start as Tick)
-        } else {
-            None
-        }
+        let found = self.by_start.first_clear(Booking {
+            resource,
+            start: from,
+            length: ticks,
+        })?;
+        (found.end() <= u64::from(HORIZON)).then_some(found.start)
     }
 
     ghost horizon_limit = { roll_horizon };

@@ -32,12 +32,9 @@ impl Writable for Roll {
     }
 
     fn take_back(&mut self) -> Result<Booking, Refusal> {
-        match self.bookings.pop() {
-            Some(booking) => {
-                self.by_start.remove(booking);
-                Ok(booking)
-            }
-            None => Err(Refusal::NothingToTakeBack),
-        }
+        let newest = self.bookings.pop();
+        let booking = newest.ok_or(Refusal::NothingToTakeBack)?;
+        self.by_start.remove(booking);
+        Ok(booking)
     }
 }

@@ -3,7 +3,6 @@ use Rattle.std.proofs.Common.{arith}
 use Rattle.std.proofs.lemmas.List.{get_or_read}
 use Rattle.std.proofs.lemmas.List.Sorted.{IsPermutation-trans}
 use Rattle.queue.proofs.Digits.{digits_half}
-use Rattle.queue.proofs.Fronts.{is_permutation_take_swapped}
 use Rattle.queue.proofs.Sifts.{rise_steps}
 use Rattle.queue.proofs.sift.sift_up.Goals as goal
 
@@ -14,7 +13,7 @@ loop-i-preserved g c =
       within = omega arith;
       len = grind arith;
       rising = rise_steps _ g.met.T.Rank.order _ _ l.i _ _ (omega arith) (omega arith) (omega arith) swapped (λ d. grind (arith, get_or_read, c.if-not-precedes.ensures)) l.invariant.rising;
-      moved = IsPermutation-trans _ _ _ l.invariant.moved (is_permutation_take_swapped _ _ _ _ _ (omega arith) (omega arith) (omega arith) swapped);
+      moved = IsPermutation-trans _ _ _ l.invariant.moved c.swap.ensures.permutation;
     }
 
 pub loop-i-smaller : goal.loop-i-smaller

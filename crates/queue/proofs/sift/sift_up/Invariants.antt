@@ -1,5 +1,5 @@
--- The element that rises stands at i; it takes no more steps than at + 1 has binary digits.
-use Rattle.std.proofs.Common.{◌≡◌, ◌+◌, ◌≤◌, length, take}
+-- The element that rises stands at i; it takes no more steps than the length of the heap has binary digits.
+use Rattle.std.proofs.Common.{◌≡◌, ◌+◌, ◌<◌, length}
 use Rattle.std.specs.List.Sorted.{IsPermutation}
 use Rattle.queue.proofs.Digits.{digits}
 use Rattle.queue.proofs.Sifts.{IsRising}
@@ -7,10 +7,10 @@ use Rattle.queue.proofs.sift.sift_up.Given as goal
 
 abbrev pub invariant-loop-i : goal.invariant-loop-i
 invariant-loop-i g l = record {
-  within : l.i ≤ l.at;
-  len : length l.slots ≡ length l.initial.slots;
-  rising : IsRising g.T.Rank.before l.slots l.i (l.at + 1);
-  moved : IsPermutation (take (l.at + 1) l.initial.slots) (take (l.at + 1) l.slots);
+  within : l.i < length l.initial.heap;
+  len : length l.heap ≡ length l.initial.heap;
+  rising : IsRising g.T.Rank.before l.heap l.i (length l.initial.heap);
+  moved : IsPermutation l.initial.heap l.heap;
 }
 
 abbrev pub decreases-loop-i : goal.decreases-loop-i

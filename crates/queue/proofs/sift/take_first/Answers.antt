@@ -6,8 +6,9 @@ use Rattle.queue.proofs.sift.take_first.Goals as goal
 
 pub returns-clause-first : goal.returns-clause-first
 returns-clause-first g c =
-    let r = c.requires in is_first_top _ g.met.T.Rank.order _ _ _ r.some r.room (search rules) r.heap
+    let r = c.requires in is_first_top _ g.met.T.Rank.order _ _ r.some (search rules) r.heap
 
 pub returns-clause-items : goal.returns-clause-items
 returns-clause-items g c =
-    let r = c.requires in is_permutation_popped _ _ _ _ _ r.some r.room c.swap.ensures.len (search rules) c.swap.ensures.by_index c.sift_down.ensures.items
+    let r = c.requires in
+    let s = c.swap.ensures in is_permutation_popped _ _ _ _ _ r.some s.len (search rules) s.by_index s.permutation c.sift_down.ensures.items

@@ -1,10 +1,9 @@
-use Rattle.std.proofs.Common.{arith}
-use Rattle.script.specs.Words.{words_of}
-use Rattle.script.proofs.Routing.{route_next, route_refused}
+use Rattle.std.proofs.Common.{rules, vec_items}
+use Rattle.script.specs.Left.{hops_left}
+use Rattle.script.proofs.Drained.{drained}
 use Rattle.script.proofs.statement.route.Goals as goal
 
-pub returns-in_err-hops : goal.returns-in_err-hops
-returns-in_err-hops c =
-    let says = route_next (words_of c.args.text.now) (words_of c.in_ok-from.rest.now) (words_of c.in_ok-to.rest.now) c.in_ok-from.from c.in_ok-to.to (grind arith) (grind arith) (grind arith) (grind arith) in
-    let told = route_refused c.in_err-hops.field-0.0 c.in_ok-from.from c.in_ok-to.to _ c.in_err-hops.ensures in
-    rw says (grind arith)
+pub returns : goal.returns
+returns c =
+    let left = drained hops_left c.in_ok-hops.hops (vec_items c.in_ok-hops-2.hops) c.in_ok-hops-2.ensures in
+    search rules

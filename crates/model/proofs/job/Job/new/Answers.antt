@@ -1,16 +1,18 @@
-use Rattle.std.proofs.Common.{◌≡◌, Some, None, vec_items, sym, refl, ◌∙◌, rules}
-use Rattle.std.proofs.lemmas.Bool.{true≢false}
+use Rattle.std.proofs.Common.{◌≡◌, vec_items, refl, rules}
 use Rattle.model.specs.JobLimits.{job_refusal}
-use Rattle.model.proofs.Firsts.{some≢none}
+use Rattle.model.specs.Refusals.{refusal_of}
+use Rattle.model.proofs.Firsts.{unrefused}
 use Rattle.model.proofs.Jobs.{job_limits, job_passes}
 use Rattle.model.proofs.job.Job.new.Goals as goal
 
-pub returns-in-Some : goal.returns-in-Some
-returns-in-Some c =
-    let is : Some c.in-Some.refusal ≡ job_refusal (vec_items c.args.works) (vec_items c.args.edges) = search rules in
-    record { answer = is; kept = tt; limits = (λ e. absurd (true≢false (sym e)), λ l. absurd (some≢none (is ∙ job_passes _ _ l))) }
+pub returns-in_err-check_job-clause-limits : goal.returns-in_err-check_job-clause-limits
+returns-in_err-check_job-clause-limits c =
+    let is : refusal_of c.from_residual.result ≡ job_refusal (vec_items c.args.works) (vec_items c.args.edges) = search rules in
+    let passed = unrefused c.from_residual.result _ is in
+    (λ e. job_limits _ _ (passed.0 e), λ l. passed.1 (job_passes _ _ l))
 
-pub returns-in-None : goal.returns-in-None
-returns-in-None c =
-    let is : None ≡ job_refusal (vec_items c.args.works) (vec_items c.args.edges) = search rules in
-    record { answer = is; kept = (refl, refl); limits = (λ e. job_limits _ _ (sym is), λ l. refl) }
+pub returns-clause-limits : goal.returns-clause-limits
+returns-clause-limits c =
+    let is : refusal_of c.check_job.result ≡ job_refusal (vec_items c.args.works) (vec_items c.args.edges) = search rules in
+    let passed = unrefused c.check_job.result _ is in
+    (λ e. job_limits _ _ (passed.0 (search rules)), λ l. refl)

@@ -1,4 +1,5 @@
 -- A best route by the hop count has the fewest hops.
+use Rattle.std.proofs.lemmas.Result.{IfOk-weaker}
 use Rattle.model.specs.Data.{net_of}
 use Rattle.routes.specs.Kinds.{fewer, no_hop, one_hop_more}
 use Rattle.routes.specs.Search.{searched_route}
@@ -9,6 +10,8 @@ use Rattle.routes.proofs.searched.kinds.routes_by_hops.Goals as goal
 
 pub returns-clause-fewest : goal.returns-clause-fewest
 returns-clause-fewest c =
-    let n = c.in_ok-routes.routes.network in
-    fewest_hops (net_of n) (searched_route fewer one_hop_more (net_of n) no_hop)
-    (searched_keeps fewer one_hop_more no_hop fewer_order hop_count_laws n) c.in_ok-routes.ensures.best
+    IfOk-weaker c.new.result _ _
+    (λ r best.
+    let n = r.network in
+    fewest_hops (net_of n) (searched_route fewer one_hop_more (net_of n) no_hop) (searched_keeps fewer one_hop_more no_hop fewer_order hop_count_laws n) best)
+    c.new.ensures.best

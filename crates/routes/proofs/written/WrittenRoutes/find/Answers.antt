@@ -1,4 +1,4 @@
-use Rattle.std.proofs.Common.{◌≡◌, ℕ, ◌+◌, ◌*◌, ◌<◌, length, get_or, Some, vec_items, Option, Vec, sym, ap, ◌∙◌, arith}
+use Rattle.std.proofs.Common.{◌≡◌, ℕ, ◌+◌, ◌*◌, ◌<◌, length, get_or, vec_items, Option, Vec, sym, ap, ◌∙◌, arith}
 use Rattle.std.specs.Option.{option_map}
 use Rattle.std.specs.declared.alloc.Global.{Global}
 use Rattle.model.specs.Data.{net_of, station_count}
@@ -23,12 +23,7 @@ index-requires c =
     let w = c.args.self.now in
     omega (arith, inside w c.station_count-stations.result c.args.from c.args.to c.station_count-stations.ensures.value c.if-from-stations.false c.if-to-stations.false)
 
-pub returns-in-Some : goal.returns-in-Some
-returns-in-Some c =
+pub returns : goal.returns
+returns c =
     let route = found c.args.self.now c.station_count-stations.result c.args.from c.args.to c.station_count-stations.ensures.value c.if-from-stations.false c.if-to-stations.false c.index.result.now c.index.ensures in
-    ap Some c.deref.ensures.value ∙ sym (route ∙ ap (option_map vec_items) c.in-Some.is)
-
-pub returns-in-None : goal.returns-in-None
-returns-in-None c =
-    let route = found c.args.self.now c.station_count-stations.result c.args.from c.args.to c.station_count-stations.ensures.value c.if-from-stations.false c.if-to-stations.false c.index.result.now c.index.ensures in
-    sym (route ∙ ap (option_map vec_items) c.in-None.is)
+    c.as_deref.ensures.value ∙ sym route

@@ -1,0 +1,79 @@
+-- What a row of the table of legs tells of a transfer's legs.
+use Rattle.std.proofs.Common.{◌≡◌, ℕ, zero, suc, ◌+◌, ◌<◌, ◌≤◌, Bool, true, false, cond, ◌||◌, ◌⊎◌, List, [], ◌∷◌, length, get_or, Some, None, Option, Bor, sym, refl, ap, ◌∙◌, subst, ⊎_elim, arith}
+use denote.Param.Members.{Mut}
+use Rattle.std.specs.Array.{IsFromFnResult, IsFromFnResultFrom}
+use Rattle.std.specs.Bool.{MatchBool}
+use Rattle.std.specs.Fn.{Called}
+use Rattle.std.specs.Iterator.Adapters.{option_iter_steps, option_iter_item, option_iter_done}
+use Rattle.std.specs.Option.{option_to_list}
+use Rattle.std.specs.declared.option.Iter.{OptionIter}
+use Rattle.std.specs.List.{slice_get, list_any, flat_map}
+use Rattle.std.proofs.lemmas.Bool.{cases_lt}
+use Rattle.std.proofs.lemmas.Iterator.{YieldsList}
+use Rattle.std.proofs.lemmas.Iterator.Consumers.{YieldsList-from_shown}
+use Rattle.model.specs.Data.{NetData, job_of}
+use Rattle.model.specs.Plans.{plan_of}
+use Rattle.model.specs.declared.job.Job.{Job}
+use Rattle.model.specs.declared.plan.Plan.{Plan}
+use Rattle.model.proofs.Firsts.{some≢none}
+use Rattle.model.proofs.Jobs.{of_job}
+use Rattle.model.proofs.Tables.{starts_few}
+use Rattle.routes.specs.Legs.{Ways, legs}
+use Rattle.marker.specs.Verdicts.{any}
+use Rattle.marker.proofs.Fits.{leg_of_edge}
+
+-- an element passes exactly if one in the row does
+pub any_in_row : {A : Type 0} (p : A → Bool) (row : List (Option A)) (xs : List A) → ((k : ℕ) → get_or row k None ≡ slice_get xs k) → list_any p (flat_map option_to_list row) ≡ any xs p
+unfolding any
+any_in_row p [] [] tells = refl
+any_in_row p [] (x ∷ xs) tells = absurd (some≢none (sym (tells 0)))
+any_in_row p (None ∷ row) [] tells = any_in_row p row [] (λ k. tells (suc k))
+any_in_row p (None ∷ row) (x ∷ xs) tells = absurd (some≢none (sym (tells 0)))
+any_in_row p (Some y ∷ row) [] tells = absurd (some≢none (tells 0))
+any_in_row p (Some y ∷ row) (x ∷ xs) tells =
+    let same : y ≡ x = cc (tells 0) in
+    ap (λ b. b || list_any p (flat_map option_to_list row)) (ap p same) ∙ ap (λ b. p x || b) (any_in_row p row xs (λ k. tells (suc k)))
+
+-- an iterator over what may be there
+module _ {A : Type 0} where
+  abbrev option_rest : OptionIter A → List A
+  option_rest s = cond (option_iter_done s) [] (option_to_list (option_iter_item s))
+
+  option_ended : (b : Bool) (o : Option A) → MatchBool b (◌≡◌ {A = Option (Bor A)} None None) (None ≡ o) → length (cond b [] (option_to_list o)) ≡ 0
+  option_ended true o e = refl
+  option_ended false o e = ap (λ z. length (option_to_list z)) (sym e)
+
+  option_went : (b d : Bool) (o u : Option A) (x : Bor A) → d ≡ true → MatchBool b (Some x ≡ None) (Some x.now ≡ o) → cond b [] (option_to_list o) ≡ x.now ∷ cond d [] (option_to_list u)
+  option_went true d o u x h e = absurd (some≢none e)
+  option_went false d o u x h e = ap option_to_list (sym e) ∙ ap (λ z. x.now ∷ cond z [] (option_to_list u)) (sym h)
+
+  pub YieldsList-from_option : (s : OptionIter A) (o : Option A) → option_iter_item s ≡ o → option_iter_done s ≡ false → YieldsList option_iter_steps (λ y. y.now) s (option_to_list o)
+  YieldsList-from_option s o at more =
+      let road = YieldsList-from_shown option_iter_steps (λ y. y.now) option_rest (λ t u e. option_ended (option_iter_done t) (option_iter_item t) e.1) (λ t x u e. option_went (option_iter_done t) (option_iter_done u) (option_iter_item t) (option_iter_item u) x e.0 e.1) s in
+      let rest : option_rest s ≡ option_to_list o = ap (λ b. cond b [] (option_to_list (option_iter_item s))) more ∙ ap option_to_list at in
+      subst (YieldsList option_iter_steps (λ y. y.now) s) rest road
+
+-- what `from_fn` made has at each place what its closure gives there
+made_from : {F B : Type 0} {g : Mut F (ℕ × Unit {0}) B} (P : ℕ → B → Type 0) (f : F) (ys : List B) (i n : ℕ) → IsFromFnResultFrom g f ys i n → ((x : ℕ) (y : B) (q : F) → Called g f (x, tt) y q → (q ≡ f) × P x y) → (k : ℕ) (d : B) → i ≤ k → k < i + n → P k (get_or ys k d)
+made_from P f ys i zero made gives k d above below = absurd (omega arith)
+made_from {g = g} P f ys i (suc n) made gives k d above below =
+    let one = gives i made.1 made.0 made.3 in
+    let rest = subst (λ z. IsFromFnResultFrom g z ys (i + 1) n) one.0 made.4 in
+    ⊎_elim
+    (λ (here : k < i + 1). let same : i ≡ k = omega arith in subst (λ z. P z (get_or ys z d)) same (subst (P i) (sym (made.2.1 d)) one.1))
+    (λ (later : i + 1 ≤ k). made_from P f ys (i + 1) n rest gives k d later (omega arith))
+    (cases_lt k (i + 1))
+
+pub made_by_from_fn : {F B : Type 0} {g : Mut F (ℕ × Unit {0}) B} (P : ℕ → B → Type 0) (f : F) (ys : List B) (n : ℕ) → IsFromFnResult g f ys n → ((x : ℕ) (y : B) (q : F) → Called g f (x, tt) y q → (q ≡ f) × P x y) → (k : ℕ) (d : B) → k < n → P k (get_or ys k d)
+made_by_from_fn P f ys n made gives k d below = made_from P f ys 0 n made.each gives k d (omega arith) (omega arith)
+
+none_else : {A : Type 0} (o : Option A) → ((x : A) → o ≡ Some x → ⊥) → o ≡ None
+none_else None h = refl
+none_else (Some x) h = absurd (h x refl)
+
+-- no edge from 224 on and no hop from 15 on has a leg
+pub legs_inside : (j : Job) (N : NetData) (ρ : Ways) (p : Plan) (i k : ℕ) → (224 ≤ i) ⊎ (15 ≤ k) → slice_get (legs (job_of j) N ρ (plan_of p) i) k ≡ None
+legs_inside j N ρ p i k far =
+    none_else (slice_get (legs (job_of j) N ρ (plan_of p) i) k) (λ b e.
+    let l = leg_of_edge (job_of j) N ρ (plan_of p) i k b e in
+    ⊎_elim (λ h. omega (arith, l.0, (of_job j).few_edges)) (λ h. omega (arith, l.1, starts_few p.transfers i)) far)

@@ -1,8 +1,0 @@
-use Rattle.std.proofs.Common.{◌≡◌, ◌++◌, length, take}
-use Rattle.std.specs.Option.{option_map}
-use Rattle.script.specs.Number.{numbers_in}
-use Rattle.script.proofs.number.exactly.Given as goal
-
-abbrev pub invariant-loop-number : goal.invariant-loop-number
-invariant-loop-number g l =
-    (numbers_in l.text ≡ option_map (λ ns. take l.number-index l.number-items ++ ns) (numbers_in l.rest)) × (length l.number-items ≡ g.row.N)
