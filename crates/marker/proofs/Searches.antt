@@ -1,6 +1,7 @@
 -- The search names the first fault.
 use Rattle.std.proofs.Common.{◌≡◌, ℕ, zero, suc, ◌<◌, Bool, true, false, cond, List, [], ◌∷◌, Some, None, Option, unwrap_or, sym, refl, ap, ◌∙◌, subst, ⊎_elim, arith}
 use mathlib.Core.Path.{subst₃}
+use Rattle.std.proofs.lemmas.Option.{cond_some}
 use Rattle.std.specs.List.{slice_get}
 use Rattle.model.specs.Data.{JobData, NetData}
 use Rattle.model.specs.Lowest.{lowest}
@@ -20,10 +21,6 @@ use Rattle.marker.proofs.Fits.{fits}
 
 lawful≢broken : {r : Rule} {x y : ℕ} → Lawful ≡ Broken r x y → ⊥
 lawful≢broken e = let z : ◌≡◌ {A = ℕ} 0 1 = cc in omega arith
-
-told : {A : Type 0} (b : Bool) (w v : A) → cond b (Some w) None ≡ Some v → (b ≡ true) × (w ≡ v)
-told true w v e = (refl, cc)
-told false w v e = absurd (some≢none (sym e))
 
 untold : {A : Type 0} (b : Bool) (w : A) → cond b (Some w) None ≡ None → b ≡ true → ⊥
 untold true w e h = some≢none e
@@ -83,7 +80,7 @@ module _ (J : JobData) (N : NetData) (ρ : Ways) (P : PlanData) where
       let x = a.0 in
       let b = lowest_some (spot J N ρ P r x) (seconds J N ρ P r x) v a.2 in
       let y = b.0 in
-      let h = told (test J N ρ P r x y) (Broken r x y) v b.2 in (
+      let h = cond_some (test J N ρ P r x y) (Broken r x y) v b.2 in (
         x,
         y,
         h.1,

@@ -1,21 +1,19 @@
 //! All legs of a plan, each computed once.
 ghost use Rattle.std.specs.Prelude.{◌≡◌, [], slice_index_or};
-ghost use Rattle.model.specs.Data.{job_of, net_of};
-ghost use Rattle.model.specs.Plans.{plan_of};
 ghost use Rattle.routes.specs.Legs.{legs};
+ghost use Rattle.routes.specs.RoutedPlans.{on};
 ghost use Rattle.marker.specs.Table.{RowTells, Tells};
 
+use model::Booking;
 use model::plan::{MOST_HOPS, TRANSFER_ROWS};
-use model::{Booking, Job, Plan};
-use routes::Routes;
-use routes::legs::leg;
+use routes::{RoutedPlan, Routes};
 use std::array;
 
 /// The legs of edge `i`, hop by hop, and `None` after them.
-fn leg_row<R: Routes>(routes: &R, job: &Job, plan: &Plan, i: usize) -> [Option<Booking>; MOST_HOPS]
-    ensures { RowTells result (legs (job_of job.now) (net_of (R.Routes.over routes.now)) (R.Routes.route routes.now) (plan_of plan.now) i) }
+fn leg_row<R: Routes>(plan: &RoutedPlan<'_, R>, i: usize) -> [Option<Booking>; MOST_HOPS]
+    ensures { RowTells result (on plan.now legs i) }
 {
-    array::from_fn(|k| leg(routes, job, plan, i, k))
+    array::from_fn(|k| plan.leg(i, k))
 }
 
 /// The leg of edge `i` on its hop `k` stands at place `k` of row `i`.
@@ -27,11 +25,11 @@ pub(crate) struct LegTable {
 
 impl LegTable {
     /// All legs of a plan.
-    pub(crate) fn new<R: Routes>(routes: &R, job: &Job, plan: &Plan) -> LegTable
-        ensures { Tells result (job_of job.now) (net_of (R.Routes.over routes.now)) (R.Routes.route routes.now) (plan_of plan.now) }
+    pub(crate) fn new<R: Routes>(plan: &RoutedPlan<'_, R>) -> LegTable
+        ensures { Tells result plan.now }
     {
         LegTable {
-            rows: array::from_fn(|i| leg_row(routes, job, plan, i)),
+            rows: array::from_fn(|i| leg_row(plan, i)),
         }
     }
 

@@ -1,42 +1,45 @@
 //! A plan that is marked, with all its legs.
-ghost use Rattle.model.specs.Data.{job_of, net_of};
-ghost use Rattle.model.specs.Plans.{plan_of};
 ghost use Rattle.marker.specs.Table.{Tells};
 
 use crate::legs::LegTable;
-use model::{Booking, Job, Plan};
-use routes::Routes;
+use model::Booking;
+use model::plan::measures::task_booking;
+use routes::{RoutedPlan, Routes};
 
 /// A plan, what it is a plan of, and the legs of its transfers.
 #[derive(Drop)]
 pub(crate) struct Marking<'a, R: Routes> {
-    pub(crate) routes: &'a R,
-    pub(crate) job: &'a Job,
-    pub(crate) plan: &'a Plan,
+    pub(crate) marked: RoutedPlan<'a, R>,
     table: LegTable,
-    ghost told: { Tells table (job_of job.now) (net_of (R.Routes.over routes.now)) (R.Routes.route routes.now) (plan_of plan.now) },
+    ghost told: { Tells table marked },
 }
 
 impl<'a, R: Routes> Marking<'a, R> {
-    ghost use Rattle.std.specs.Prelude.{◌≡◌};
+    ghost use Rattle.std.specs.Prelude.{◌≡◌, Bool};
+    ghost use Rattle.std.specs.Option.{option_map};
     ghost use Rattle.std.specs.List.{slice_get};
+    ghost use Rattle.model.specs.Plans.{task_row, task_booking};
     ghost use Rattle.routes.specs.Legs.{legs};
     ghost use Rattle.marker.specs.Table.{RowTells};
-    ghost use Rattle.marker.specs.Markings.{on};
+    ghost use Rattle.marker.specs.Markings.{on, TestsBy};
+    ghost use Rattle.marker.specs.Verdicts.{any};
+    ghost use Rattle.model.specs.declared.booking.Booking as Declared;
 
     /// The marking of a plan.
-    pub(crate) fn new(routes: &'a R, job: &'a Job, plan: &'a Plan) -> Marking<'a, R>
-        ensures routes { result.routes.now ≡ routes.now }
-        ensures job { result.job.now ≡ job.now }
-        ensures plan { result.plan.now ≡ plan.now }
+    pub(crate) fn new(marked: RoutedPlan<'a, R>) -> Marking<'a, R>
+        ensures { result.marked ≡ marked.entry }
     {
-        let table = LegTable::new(routes, job, plan);
-        Marking {
-            routes,
-            job,
-            plan,
-            table,
-        }
+        let table = LegTable::new(&marked);
+        Marking { marked, table }
+    }
+
+    /// The booking of a task on its machine.
+    pub(crate) fn booking(&self, t: usize) -> Option<Booking>
+        ensures { result ≡ on self.now (λ J N ρ P. option_map (task_booking J N t) (task_row P t)) }
+    {
+        let row = self.marked.plan.task(t)?;
+        let network = self.marked.routes.network();
+        Some(task_booking(self.marked.job, network, t, row))
     }
 
     /// The legs of edge `i`, hop by hop, and `None` after them.
@@ -51,5 +54,13 @@ impl<'a, R: Routes> Marking<'a, R> {
         ensures { result ≡ slice_get (on self.now legs i) k }
     {
         *self.legs(i).get(k)?
+    }
+
+    /// Whether a leg of edge `i` passes `test`.
+    pub(crate) fn any_leg<F: Fn(&Booking) -> bool>(&self, i: usize, test: F) -> bool
+        requires { F.IsAlwaysCallable test }
+        ensures { (passes : Declared.Booking → Bool) → TestsBy (F.post test) passes → result ≡ any (on self.now legs i) passes }
+    {
+        self.legs(i).iter().flatten().any(test)
     }
 }

@@ -14,7 +14,7 @@ mod order;
 mod placement;
 mod rows;
 
-impl<'a, R: Routes> Marking<'a, R> {
+impl<R: Routes> Marking<'_, R> {
     /// Whether the rule is broken by these two numbers.
     pub(crate) fn is_broken(&self, rule: Rule, x: usize, y: usize) -> bool
         ensures { result ≡ on self.now test rule x y }
@@ -44,7 +44,7 @@ impl<'a, R: Routes> Marking<'a, R> {
             | Rule::Departure
             | Rule::Causality
             | Rule::Arrival
-            | Rule::Links => self.job.edge_count(),
+            | Rule::Links => self.marked.job.edge_count(),
         }
     }
 
@@ -54,10 +54,10 @@ impl<'a, R: Routes> Marking<'a, R> {
     {
         match rule {
             Rule::Rows => TASK_ROWS + TRANSFER_ROWS,
-            Rule::WithinLimit => TASK_ROWS + self.job.edge_count(),
-            Rule::Causality => self.plan.start_count(x),
+            Rule::WithinLimit => TASK_ROWS + self.marked.job.edge_count(),
+            Rule::Causality => self.marked.plan.start_count(x),
             Rule::Machines => TASK_ROWS,
-            Rule::Links => self.job.edge_count(),
+            Rule::Links => self.marked.job.edge_count(),
             Rule::Predecessors | Rule::Routed | Rule::Departure | Rule::Arrival => 1,
         }
     }

@@ -9,9 +9,9 @@ ghost use Rattle.marker.specs.Verdicts.{seconds, spot, search_rule, verdict, Nam
 use crate::marking::Marking;
 use crate::verdict::{Rule, Verdict};
 use model::{Job, Plan};
-use routes::Routes;
+use routes::{RoutedPlan, Routes};
 
-impl<'a, R: Routes> Marking<'a, R> {
+impl<R: Routes> Marking<'_, R> {
     /// The first break of the rule with the first number `x`.
     fn break_at(&self, rule: Rule, x: usize) -> Option<Verdict>
         ensures { result ≡ lowest (on self.now spot rule x) (on self.now seconds rule x) }
@@ -34,7 +34,7 @@ pub fn mark<R: Routes>(routes: &R, job: &Job, plan: &Plan) -> Verdict
     ensures answer { result ≡ verdict (job_of job.now) (net_of (R.Routes.over routes.now)) (R.Routes.route routes.now) (plan_of plan.now) }
     ensures first { NamesFirst (job_of job.now) (net_of (R.Routes.over routes.now)) (R.Routes.route routes.now) (plan_of plan.now) }
 {
-    let marking = Marking::new(routes, job, plan);
+    let marking = Marking::new(RoutedPlan::new(routes, job, plan));
     Rule::ALL
         .iter()
         .find_map(|rule| marking.first_break(*rule))

@@ -2,9 +2,10 @@
 use marker::{Rule, Verdict, mark};
 use model::plan::measures::{placed_count, plan_length};
 use model::{
-    Edge, Job, Link, Network, Placement, Plan, Speed, Station, StationSet, Tick, TransferRow,
+    Booking, Edge, Job, Link, Network, Placement, Plan, Speed, Station, StationSet, Tick,
+    TransferRow,
 };
-use routes::{Hop, Routes, WrittenRoutes};
+use routes::{Hop, RoutedPlan, Routes, WrittenRoutes};
 use std::alloc::Global;
 use std::test::Fail;
 
@@ -13,11 +14,8 @@ fn machine(rate: u32) -> Station {
 }
 
 fn link(a: usize, b: usize, rate: u32) -> Link {
-    let mut stations = StationSet::new();
-    stations.insert(a);
-    stations.insert(b);
     Link {
-        stations,
+        stations: StationSet::new().with(a).with(b),
         speed: Speed { rate },
     }
 }
@@ -80,19 +78,11 @@ fn placed(tasks: &[(usize, Tick)]) -> Result<Plan, Fail> {
     Ok(plan)
 }
 
-fn row(starts: &[Tick]) -> Result<TransferRow, Fail> {
-    let mut row = TransferRow::new();
-    for start in starts {
-        row.push(*start)?;
-    }
-    Ok(row)
-}
-
 /// Each task on its own machine, from 0, 8 and 14; edge 0 from 4, edge 1 from 8 and from `second`.
 fn drawn(second: Tick) -> Result<Plan, Fail> {
     let mut plan = placed(&[(0, 0), (1, 8), (2, 14)])?;
-    plan.set_transfer(0, row(&[4])?)?;
-    plan.set_transfer(1, row(&[8, second])?)?;
+    plan.set_transfer(0, TransferRow::of(&[4]))?;
+    plan.set_transfer(1, TransferRow::of(&[8, second]))?;
     Ok(plan)
 }
 
@@ -117,6 +107,30 @@ fn three_machines(rt: HostRuntime) -> Result<(), Fail> {
     assert_eq!(rt;
         mark(&routes, &job, &drawn(12)?),
         Verdict::Broken(Rule::Arrival, 1, 0)
+    );
+    Ok(())
+}
+
+/// File 1 goes over link 0 from 8, in 6 ticks, and over link 1 from 11, in 3.
+#[test]
+fn legs(rt: HostRuntime) -> Result<(), Fail> {
+    let heap = rt.alloc();
+    let routes = line(heap)?;
+    let job = three_tasks(heap)?;
+    let plan = drawn(11)?;
+    let routed = RoutedPlan::new(&routes, &job, &plan);
+    let second = Booking {
+        resource: 17,
+        start: 11,
+        length: 3,
+    };
+    assert_eq!(rt; routed.leg(1, 1), Some(second));
+    assert_eq!(rt; routed.leg(1, 2), None);
+    assert_eq!(rt; routed.leg_count(1), 2);
+    assert_eq!(rt; routed.leg_count(2), 0);
+    assert_eq!(rt;
+        job.edge(1).and_then(|edge| routed.way_length(edge)),
+        Some(2)
     );
     Ok(())
 }

@@ -19,3 +19,7 @@ shares s d s' d' = nat_lt (max s s') (min (s + d) (s' + d'))
 -- two bookings are of one resource and have a tick in common
 abbrev pub collide : Booking → Booking → Bool
 collide a b = a.resource == b.resource && shares a.start a.length b.start b.length
+
+-- two bookings are of the same resource, start and length
+abbrev pub is_same : Booking → Booking → Bool
+is_same a b = a.resource == b.resource && a.start == b.start && a.length == b.length

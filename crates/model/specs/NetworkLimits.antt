@@ -12,8 +12,11 @@ use Rattle.model.specs.declared.refusal.Refusal.{Refusal}
 use Rattle.model.specs.declared.refusal.Refusal.TheVariants.{ListLength, ValueLimits, BadLink, NoMachine}
 use Rattle.model.specs.declared.speed.Speed.{Speed}
 
+abbrev pub speed_refusal : ℕ → Speed → Option Refusal
+speed_refusal i v = if speed_ok v then None else Some (ValueLimits i)
+
 abbrev pub station_refusal : ℕ → Station → Option Refusal
-station_refusal i (Machine v) = if speed_ok v then None else Some (ValueLimits i)
+station_refusal i (Machine v) = speed_refusal i v
 station_refusal i Switch = None
 
 abbrev pub is_a_machine : Station → Bool

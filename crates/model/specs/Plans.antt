@@ -2,6 +2,7 @@
 use Rattle.std.specs.Prelude.{ℕ, ◌+◌, ◌-◌, max, Bool, ◌&&◌, List, [], ◌∷◌, ◌++◌, map, length, take, replicate, Some, None, Option, Ok, Err, Result, if◌then◌else◌, nat_lt, slice_index_or, slice_set}
 use Rattle.std.specs.List.{slice_get}
 use Rattle.model.specs.Data.{JobData, NetData, task_length}
+use Rattle.model.specs.declared.booking.Booking.{Booking}
 use Rattle.model.specs.declared.plan.Placement.{Placement}
 use Rattle.model.specs.declared.plan.Plan.{Plan}
 use Rattle.model.specs.declared.plan.TransferRow.{TransferRow}
@@ -60,6 +61,10 @@ abbrev pub start_answer : List ℕ → Result (Unit {0}) PlanError
 start_answer ss = if nat_lt (length ss) 15 then Ok tt else Err Full
 
 -- measures
+
+-- the booking of task t where it is placed
+abbrev pub task_booking : JobData → NetData → ℕ → Placement → Booking
+task_booking J N t p = record { resource = p.station; start = p.start; length = task_length J N t p.station }
 
 abbrev pub finish : JobData → NetData → ℕ → Placement → ℕ
 finish J N t p = p.start + task_length J N t p.station

@@ -1,7 +1,8 @@
 -- The number and the detail of each refusal, and the first refusal of a list of records.
-use Rattle.std.specs.Prelude.{◌≡◌, ℕ, ◌+◌, List, [], ◌∷◌, Some, None, Ok, Err, Option, Result, codes, decimal}
+use Rattle.std.specs.Prelude.{◌≡◌, ℕ, ◌+◌, List, [], ◌∷◌, Some, None, Ok, Err, Option, Result, if◌then◌else◌, codes, decimal}
 use Rattle.std.specs.List.{concat}
 use Rattle.std.specs.Borrow.{Bor}
+use Rattle.model.specs.Lengths.{within}
 use Rattle.model.specs.declared.refusal.Refusal.{Refusal}
 use Rattle.model.specs.declared.refusal.Refusal.TheVariants.{ListLength, ValueLimits, BadEdge, BadLink, NoMachine, BadRoute, NoSuchTask, NotAMachine, AlreadyPlaced, PredecessorUnplaced, NothingToTakeBack, NoRoute, NoRoom, NoStart, EveryMachineRefuses, NotInOrder}
 
@@ -44,6 +45,10 @@ refusal_detail NotInOrder = 0
 -- the number and the detail, in decimal
 abbrev pub refusal_text : Refusal → List ℕ
 refusal_text r = concat (decimal (refusal_number r) ∷ codes " " ∷ decimal (refusal_detail r) ∷ [])
+
+-- a list of n elements is shorter or longer than its limits
+abbrev pub length_refusal : ℕ → ℕ → ℕ → Option Refusal
+length_refusal least most n = if within least most n then None else Some (ListLength n)
 
 -- the first answer, if there is one
 abbrev pub or_else : {E : Type 0} → Option E → Option E → Option E

@@ -15,7 +15,7 @@ pub use job::{Edge, Job};
 pub use network::{Link, Network, Station};
 pub use plan::error::PlanError;
 pub use plan::{Placement, Plan, TransferRow};
-pub use refusal::Refusal;
+pub use refusal::{Refusal, check};
 pub use speed::Speed;
 pub use stations::StationSet;
 pub use tick::Tick;

@@ -27,7 +27,7 @@ pub struct Placement {
 }
 
 /// The starts of one transfer, one for each hop of its route: the first `count` of `starts`.
-/// An array, since a row is `Copy` and a plan never allocates.
+/// An array, since a row is `Copy` and a plan never allocates. In definitions an array is a list: `room` says how long.
 #[derive(Clone, Copy)]
 pub struct TransferRow {
     starts: [Tick; MOST_HOPS],
@@ -38,7 +38,7 @@ pub struct TransferRow {
 
 /// Which machine does each task and when, and when each transfer is on each link of its route.
 /// The steps are the tasks in the order in which they were placed: the first `step_count` of `steps`.
-/// They stand in arrays, since a plan never allocates.
+/// They stand in arrays, since a plan never allocates. In definitions an array is a list: ghost fields say how long.
 #[derive(Drop)]
 pub struct Plan {
     tasks: [Option<Placement>; TASK_ROWS],

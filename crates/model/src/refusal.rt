@@ -1,7 +1,7 @@
 //! Why a call is turned down: one case for each cause, with its detail.
-ghost use Rattle.std.specs.Prelude.{◌≡◌, ℕ, Option};
+ghost use Rattle.std.specs.Prelude.{◌≡◌, ℕ, if◌then◌else◌, Some, Ok, Err, Option};
 ghost use Rattle.model.specs.declared.refusal.Refusal.{Refusal};
-ghost use Rattle.model.specs.Refusals.{refusal_number, refusal_detail, first_refusal, refusal_of, RefusesBy};
+ghost use Rattle.model.specs.Refusals.{refusal_number, refusal_detail, length_refusal, first_refusal, refusal_of, RefusesBy};
 
 use std::error::Error;
 use std::fmt;
@@ -86,7 +86,6 @@ impl Refusal {
 
 /// The number and the detail.
 impl fmt::Display for Refusal {
-    ghost use Rattle.std.specs.Prelude.{Some};
     ghost use Rattle.model.specs.Refusals.{refusal_text};
 
     ghost output = { λ r. Some (refusal_text r) };
@@ -98,6 +97,23 @@ impl fmt::Display for Refusal {
 }
 
 impl Error for Refusal {}
+
+/// Refuses by `error`, unless what is asked for holds.
+pub fn check<E: Drop>(holds: bool, error: E) -> Result<(), E>
+    ensures { result ≡ (if holds then Ok tt else Err error) }
+{
+    if holds { Ok(()) } else { Err(error) }
+}
+
+/// Refuses a list that is shorter than `least` or longer than `most`.
+pub(crate) fn check_length(length: usize, least: usize, most: usize) -> Result<(), Refusal>
+    ensures { refusal_of result ≡ length_refusal least most length }
+{
+    check(
+        (least..=most).contains(&length),
+        Refusal::ListLength(length),
+    )
+}
 
 /// The refusal of the first item that is refused; `test` is given each with its place.
 pub(crate) fn check_each<T, F: Fn(usize, &T) -> Result<(), Refusal>>(

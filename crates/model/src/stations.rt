@@ -6,6 +6,7 @@ ghost use Rattle.model.specs.Stations.{no_stations, with_station, has_station, c
 use crate::network::MOST_STATIONS;
 
 /// Which of the numbers 0 to 15 are in the set, and whether any greater number is.
+/// An array, since a set is `Copy` and takes no memory of its own.
 #[derive(Clone, Copy, Debug, PartialEq, Eq)]
 pub struct StationSet {
     members: [bool; MOST_STATIONS],
@@ -49,11 +50,21 @@ impl StationSet {
         }
     }
 
+    /// The set with a number more.
+    pub fn with(mut self, station: usize) -> StationSet
+        ensures { result ≡ with_station self station }
+    {
+        self.insert(station);
+        self
+    }
+
     /// Whether a number from 0 to 15 is in the set.
     pub fn contains(&self, station: usize) -> bool
         ensures { result ≡ has_station self.now station }
     {
-        station < MOST_STATIONS && self.members[station]
+        self.members
+            .get(station)
+            .is_some_and(|is_member| *is_member)
     }
 
     /// How many of the numbers 0 to 15 are in the set.

@@ -1,9 +1,11 @@
 -- Tests of every element of a list, of those from a place on, and of steps and bookings, read and passed element by element.
-use Rattle.std.proofs.Common.{◌≡◌, ℕ, zero, suc, ◌+◌, ◌<◌, Bool, true, false, not, ◌&&◌, List, [], ◌∷◌, drop, Some, None, ◌==◌, refl, sym, ap, subst, ◌∙◌, ⊎_elim, arith}
+use Rattle.std.proofs.Common.{◌≡◌, ℕ, zero, suc, ◌+◌, ◌<◌, Bool, true, false, not, List, [], ◌∷◌, drop, Some, None, ◌==◌, refl, sym, ap, subst, ◌∙◌, ⊎_elim, arith}
 use Rattle.std.specs.List.{slice_get, list_all, enumerate_from}
 use Rattle.std.proofs.lemmas.Bool.{and_parts, and_from, or_cases, or_left, or_right, cases_Bool, both_ways, not_from_false, eqb-true, eq-eqb}
 use Rattle.model.specs.declared.booking.Booking.{Booking}
-use Rattle.planner.specs.Order.{is_among, all_differ, is_same, are_same}
+use Rattle.model.specs.Bookings.{is_same}
+use Rattle.timetable.proofs.Counts.{same_booking, booking_same}
+use Rattle.planner.specs.Order.{is_among, all_differ, are_same}
 
 pub some_same : {X : Type 0} (x y : X) → Some x ≡ Some y → x ≡ y
 some_same x y e = cc e
@@ -106,27 +108,14 @@ differ_pass (u ∷ ts) once =
 
 -- equal lists of bookings
 
-same_read : (a b : Booking) → is_same a b ≡ true → a ≡ b
-same_read a b e =
-    let first = and_parts (a.resource == b.resource && a.start == b.start) (a.length == b.length) e in
-    let rest = and_parts (a.resource == b.resource) (a.start == b.start) first.0 in
-    let r = eqb-true a.resource b.resource rest.0 in
-    let s = eqb-true a.start b.start rest.1 in
-    let l = eqb-true a.length b.length first.1 in
-    let with : ℕ → ℕ → ℕ → Booking = λ x y z. record { resource = x; start = y; length = z } in
-    ap (λ x. with x a.start a.length) r ∙ ap (λ y. with b.resource y a.length) s ∙ ap (λ z. with b.resource b.start z) l
-
 pub sames_read : (bs cs : List Booking) → are_same bs cs ≡ true → bs ≡ cs
 sames_read [] [] e = refl
 sames_read [] (c ∷ cs) e = cc e
 sames_read (b ∷ bs) [] e = cc e
 sames_read (b ∷ bs) (c ∷ cs) e =
     let parts = and_parts (is_same b c) (are_same bs cs) e in
-    ap (λ x. x ∷ bs) (same_read b c parts.0) ∙ ap (λ xs. c ∷ xs) (sames_read bs cs parts.1)
-
-same_itself : (b : Booking) → is_same b b ≡ true
-same_itself b = and_from _ _ (and_from _ _ (eq-eqb b.resource b.resource refl) (eq-eqb b.start b.start refl)) (eq-eqb b.length b.length refl)
+    ap (λ x. x ∷ bs) (same_booking b c parts.0) ∙ ap (λ xs. c ∷ xs) (sames_read bs cs parts.1)
 
 pub sames_themselves : (bs : List Booking) → are_same bs bs ≡ true
 sames_themselves [] = refl
-sames_themselves (b ∷ bs) = and_from (is_same b b) (are_same bs bs) (same_itself b) (sames_themselves bs)
+sames_themselves (b ∷ bs) = and_from (is_same b b) (are_same bs bs) (booking_same b) (sames_themselves bs)

@@ -1,43 +1,28 @@
 -- Tasks are put by falling priority, the lowest number first among equals, and none is lost or added.
-use Rattle.std.proofs.Common.{◌≡◌, ℕ, zero, suc, ◌+◌, ◌<◌, ◌≤◌, Bool, true, false, not, List, [], ◌∷◌, filter, All, AllPairs, IsPermutation, cond, if◌then◌else◌, refl, inl, inr, ⊎_elim, arith}
+use Rattle.std.proofs.Common.{◌≡◌, ℕ, ◌<◌, ◌≤◌, Bool, true, false, not, List, [], ◌∷◌, All, AllPairs, IsPermutation, if◌then◌else◌, refl, inl, inr, ⊎_elim, arith}
 use Rattle.std.specs.Bool.{nat_lt}
 use Rattle.std.specs.List.{range_with_len}
 use Rattle.std.proofs.lemmas.Bool.{cases_lt}
 use Rattle.std.proofs.lemmas.Bool.Decides.{nat_tests}
-use Rattle.std.proofs.lemmas.List.Elements.{All-nil, All-cons, All-head, All-tail, All-filter}
-use Rattle.std.proofs.lemmas.List.Kept.{AllPairs-cons}
+use Rattle.std.proofs.lemmas.List.Elements.{All-nil, All-cons, All-head, All-tail}
+use Rattle.std.proofs.lemmas.List.FromFn.{length-range_with_len, get_or-range_with_len}
+use Rattle.std.proofs.lemmas.List.Kept.{AllPairs-cons, AllPairs-filter}
 use Rattle.std.proofs.lemmas.List.Sorted.{IsPermutation-refl, IsPermutation-cons, IsPermutation-trans, IsPermutation-insert}
 use Rattle.model.specs.Data.{task_count}
+use Rattle.timetable.proofs.Pairs.{all_pairs_head, all_pairs_tail}
 use Rattle.planner.specs.Edges.{is_placed}
 use Rattle.planner.specs.FillLaws.{ComesBefore, FillTakesInOrder}
 use Rattle.planner.specs.Filling.{put_in, by_priority, unplaced_tasks}
-
-pairs_head : {X : Type 0} (R : X → X → Type 0) (x : X) (xs : List X) → AllPairs R (x ∷ xs) → All (R x) xs
-pairs_head R x xs each = λ k d within. each 0 (suc k) d (omega arith) (omega arith)
-
-pairs_tail : {X : Type 0} (R : X → X → Type 0) (x : X) (xs : List X) → AllPairs R (x ∷ xs) → AllPairs R xs
-pairs_tail R x xs each = λ i j d before within. each (suc i) (suc j) d (omega arith) (omega arith)
 
 pairs_nil : {X : Type 0} (R : X → X → Type 0) → AllPairs R []
 pairs_nil R i j d before within = absurd (omega arith)
 
 -- the tasks that are not placed rise
 
-all_from : (n a low : ℕ) → low ≤ a → All (λ x. low ≤ x) (range_with_len a n)
-all_from zero a low le = All-nil _
-all_from (suc n) a low le = All-cons (λ x. low ≤ x) a _ le (all_from n (a + 1) low (omega arith))
-
 range_rises : (n a : ℕ) → AllPairs (λ x y. x < y) (range_with_len a n)
-range_rises zero a = pairs_nil (λ x y. x < y)
-range_rises (suc n) a = AllPairs-cons (λ x y. x < y) a _ (λ k d within. let above = all_from n (a + 1) (a + 1) (omega arith) k d within in omega (arith, above)) (range_rises n (a + 1))
-
-filter_rises : (p : ℕ → Bool) (xs : List ℕ) → AllPairs (λ x y. x < y) xs → AllPairs (λ x y. x < y) (filter p xs)
-filter_rises p [] each = each
-filter_rises p (x ∷ xs) each = step (filter_rises p xs (pairs_tail (λ x y. x < y) x xs each)) (p x)
-  where
-    step : AllPairs (λ x y. x < y) (filter p xs) → (b : Bool) → AllPairs (λ x y. x < y) (cond b (x ∷ filter p xs) (filter p xs))
-    step rest true = AllPairs-cons (λ x y. x < y) x (filter p xs) (All-filter p (λ y. x < y) xs (pairs_head (λ x y. x < y) x xs each)) rest
-    step rest false = rest
+range_rises n a i j d before within =
+    let last : j < n = omega (arith, length-range_with_len a n) in
+    omega (arith, get_or-range_with_len a n i d (omega arith), get_or-range_with_len a n j d last)
 
 module _ (priority : ℕ → ℕ) where
   all_put_in : (Q : ℕ → Type 0) (t : ℕ) (us : List ℕ) → Q t → All Q us → All Q (put_in priority t us)
@@ -71,13 +56,13 @@ module _ (priority : ℕ → ℕ) where
 
   order_put_in : (t : ℕ) (us : List ℕ) → All (λ u. t < u) us → AllPairs (ComesBefore priority) us → AllPairs (ComesBefore priority) (put_in priority t us)
   order_put_in t [] above each = AllPairs-cons (ComesBefore priority) t [] (All-nil _) each
-  order_put_in t (u ∷ us) above each = step (order_put_in t us (All-tail (λ v. t < v) u us above) (pairs_tail (ComesBefore priority) u us each)) (nat_lt (priority t) (priority u)) refl
+  order_put_in t (u ∷ us) above each = step (order_put_in t us (All-tail (λ v. t < v) u us above) (all_pairs_tail (ComesBefore priority) u us each)) (nat_lt (priority t) (priority u)) refl
     where
       R : ℕ → ℕ → Type 0
       R = ComesBefore priority
 
       behind : All (R u) us
-      behind = pairs_head R u us each
+      behind = all_pairs_head R u us each
 
       low : priority u ≤ priority t → All (R t) (u ∷ us)
       low le =
@@ -92,10 +77,10 @@ module _ (priority : ℕ → ℕ) where
   order_by_priority : (ts : List ℕ) → AllPairs (λ x y. x < y) ts → AllPairs (ComesBefore priority) (by_priority priority ts)
   order_by_priority [] each = pairs_nil (ComesBefore priority)
   order_by_priority (t ∷ ts) each =
-      order_put_in t (by_priority priority ts) (all_by_priority (λ u. t < u) ts (pairs_head (λ x y. x < y) t ts each)) (order_by_priority ts (pairs_tail (λ x y. x < y) t ts each))
+      order_put_in t (by_priority priority ts) (all_by_priority (λ u. t < u) ts (all_pairs_head (λ x y. x < y) t ts each)) (order_by_priority ts (all_pairs_tail (λ x y. x < y) t ts each))
 
 pub fill_takes_in_order : FillTakesInOrder
 fill_takes_in_order priority J P = record {
   tasks = same_by_priority priority (unplaced_tasks J P);
-  order = order_by_priority priority (unplaced_tasks J P) (filter_rises (λ t. not (is_placed P t)) (range_with_len 0 (task_count J)) (range_rises (task_count J) 0));
+  order = order_by_priority priority (unplaced_tasks J P) (AllPairs-filter (λ x y. x < y) (λ t. not (is_placed P t)) (range_with_len 0 (task_count J)) (range_rises (task_count J) 0));
 }

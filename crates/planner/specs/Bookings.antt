@@ -1,17 +1,11 @@
 -- The bookings of a plan, step by step.
 use Rattle.std.specs.Prelude.{ℕ, List, [], ◌∷◌, ◌++◌, flat_map}
 use Rattle.std.specs.Option.{option_map_or}
-use Rattle.model.specs.Data.{JobData, NetData, task_length}
-use Rattle.model.specs.Plans.{PlanData, task_row}
+use Rattle.model.specs.Data.{JobData, NetData}
+use Rattle.model.specs.Plans.{PlanData, task_row, task_booking}
 use Rattle.model.specs.declared.booking.Booking.{Booking}
-use Rattle.model.specs.declared.plan.Placement.{Placement}
 use Rattle.routes.specs.Legs.{Ways, legs}
-use Rattle.timetable.specs.Tables.{span}
 use Rattle.planner.specs.Edges.{incoming}
-
--- the booking of task t where it is placed
-abbrev pub task_booking : JobData → NetData → ℕ → Placement → Booking
-task_booking J N t p = span p.station p.start (task_length J N t p.station)
 
 -- the bookings of the step of task t: those of its incoming edges by rising number, hop by hop, then its own
 abbrev pub step_bookings : JobData → NetData → Ways → PlanData → ℕ → List Booking

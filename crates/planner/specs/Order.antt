@@ -2,6 +2,7 @@
 use Rattle.std.specs.Prelude.{ℕ, Bool, true, false, not, ◌&&◌, ◌||◌, List, [], ◌∷◌, length, drop, is_none, Some, None, Option, ◌==◌}
 use Rattle.std.specs.List.{list_all, list_any, enumerate_from}
 use Rattle.std.specs.Option.{option_map_or}
+use Rattle.model.specs.Bookings.{is_same}
 use Rattle.model.specs.Data.{JobData, NetData, task_count, is_machine}
 use Rattle.model.specs.Plans.{PlanData, starts}
 use Rattle.model.specs.declared.booking.Booking.{Booking}
@@ -52,9 +53,6 @@ steps_are_placed P =
 -- the goal of each filled transfer of the job is a step
 abbrev pub goals_are_steps : JobData → PlanData → Bool
 goals_are_steps J P = list_all (λ (i, e). is_empty (starts P i) || is_among P.steps e.to) (enumerate_from 0 J.edges)
-
-abbrev pub is_same : Booking → Booking → Bool
-is_same a b = a.resource == b.resource && a.start == b.start && a.length == b.length
 
 abbrev pub are_same : List Booking → List Booking → Bool
 are_same [] [] = true

@@ -32,7 +32,7 @@ pub fn sift_down<T: Rank>(heap: &mut [T])
     ensures items { IsPermutation heap.old heap.new }
 {
     let mut i = 0;
-    // From parent to first child.
+    // From parent to first child, in steps that depend on the order.
     while i < heap.len() / 2 {
         let child = first_child(heap, i);
         if !heap[child].precedes(&heap[i]) {

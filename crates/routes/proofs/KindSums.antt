@@ -16,8 +16,8 @@ use Rattle.routes.specs.Laws.{RouteLaws}
 use Rattle.routes.specs.Walks.{is_walk}
 use Rattle.routes.specs.Shown.Walked.{is_walked}
 use Rattle.routes.specs.declared.hop.Hop.{Hop}
-use Rattle.routes.specs.declared.kinds.HopCount.{HopCount}
-use Rattle.routes.specs.declared.kinds.Slowness.{Slowness}
+use Rattle.routes.specs.declared.kinds.hop_count.HopCount.{HopCount}
+use Rattle.routes.specs.declared.kinds.slowness.Slowness.{Slowness}
 
 -- the link of a hop of a walk is there
 there_of : (o : Option Link) (a b : ℕ) → carries_over o a b ≡ true → (k : Link) × (o ≡ Some k)

@@ -1,5 +1,4 @@
 pub mod Along
-pub mod Rows
 pub mod Transfers
 pub mod Linkwise
 pub mod Offered

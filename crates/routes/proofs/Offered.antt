@@ -1,10 +1,10 @@
 -- The ways on to one station more.
-use Rattle.std.proofs.Common.{◌≡◌, ℕ, zero, suc, ◌+◌, List, [], ◌∷◌, ◌++◌, refl, sym, ap, ◌∙◌, subst, arith, add-one, zero-add, append_assoc, map}
+use Rattle.std.proofs.Common.{◌≡◌, ℕ, zero, suc, ◌+◌, List, [], ◌∷◌, ◌++◌, refl, sym, ap, ◌∙◌, subst, arith, add-one, zero-add, append_assoc}
 use Rattle.std.specs.Prelude.{Bool, Result, Ok, Err, OnOk, IsErr}
 use Rattle.std.specs.List.{flat_map, range_with_len}
 use Rattle.std.specs.List.Sorted.{IsPermutation}
 use Rattle.std.proofs.lemmas.Grind.{flat_map-append}
-use Rattle.std.proofs.lemmas.List.{append-nil, map-append}
+use Rattle.std.proofs.lemmas.List.{append-nil}
 use Rattle.std.proofs.lemmas.List.Sorted.{IsPermutation-trans, IsPermutation-append_comm, IsPermutation-append_left, IsPermutation-append_right}
 use Rattle.model.specs.Data.{NetData}
 use Rattle.model.specs.declared.network.Link.{Link}
@@ -23,27 +23,21 @@ shuffled xs ys q r s first second =
     IsPermutation-trans _ _ _ (IsPermutation-append_left q (xs ++ ys) (ys ++ xs) (IsPermutation-append_comm xs ys))
     (IsPermutation-trans _ _ _ (subst (λ w. IsPermutation w (ys ++ r)) (sym (append_assoc ys xs q)) (IsPermutation-append_right ys (xs ++ q) r first)) second)
 
-module _ {X : Type 0} (before : X → X → Bool) (longer : X → Link → X) (N : NetData) (us : List (Settled X)) (u : ℕ × Settled X) where
-  offers_more : (t : ℕ) → offers_below before longer N us u (t + 1) ≡ offers_below before longer N us u t ++ offer_to before longer N us u t
-  offers_more t =
-      ap (λ n. flat_map (offer_to before longer N us u) (range_with_len 0 n)) (add-one t)
-      ∙ ap (flat_map (offer_to before longer N us u)) (range_more 0 t ∙ ap (λ b. range_with_len 0 t ++ b ∷ []) (zero-add t))
-      ∙ flat_map-append (offer_to before longer N us u) (range_with_len 0 t) (t ∷ [])
-      ∙ ap (λ ws. offers_below before longer N us u t ++ ws) (append-nil _)
+-- the pieces of the numbers below n, and of one number more
+pub flat_map_range_more : {A : Type 0} (f : ℕ → List A) (n : ℕ) → flat_map f (range_with_len 0 (n + 1)) ≡ flat_map f (range_with_len 0 n) ++ f n
+flat_map_range_more f n =
+    ap (λ k. flat_map f (range_with_len 0 k)) (add-one n)
+    ∙ ap (flat_map f) (range_more 0 n ∙ ap (λ b. range_with_len 0 n ++ b ∷ []) (zero-add n))
+    ∙ flat_map-append f (range_with_len 0 n) (n ∷ [])
+    ∙ ap (λ xs. flat_map f (range_with_len 0 n) ++ xs) (append-nil (f n))
 
+module _ {X : Type 0} (before : X → X → Bool) (longer : X → Link → X) (N : NetData) (us : List (Settled X)) (u : ℕ × Settled X) where
   pub one_station_more : (t : ℕ) (q r s : List (Settled X)) → IsPermutation (offers_below before longer N us u t ++ q) r → IsPermutation (offer_to before longer N us u t ++ r) s
       → IsPermutation (offers_below before longer N us u (t + 1) ++ q) s
   one_station_more t q r s first second =
-      subst (λ ws. IsPermutation (ws ++ q) s) (sym (offers_more t)) (shuffled (offers_below before longer N us u t) (offer_to before longer N us u t) q r s first second)
+      subst (λ ws. IsPermutation (ws ++ q) s) (sym (flat_map_range_more (offer_to before longer N us u) t)) (shuffled (offers_below before longer N us u t) (offer_to before longer N us u t) q r s first second)
 
 -- what a call that did not fail did
 pub unless_failed : {A E P : Type 0} (r : Result A E) → OnOk r P → (IsErr r → ⊥) → P
 unless_failed (Ok x) p fails = p
 unless_failed (Err e) p fails = absurd (fails refl)
-
--- the same of each number, and of one number more
-pub map_range_more : {A : Type 0} (f : ℕ → A) (n : ℕ) → map f (range_with_len 0 (n + 1)) ≡ map f (range_with_len 0 n) ++ f n ∷ []
-map_range_more f n =
-    ap (λ k. map f (range_with_len 0 k)) (add-one n)
-    ∙ ap (map f) (range_more 0 n ∙ ap (λ b. range_with_len 0 n ++ b ∷ []) (zero-add n))
-    ∙ map-append f (range_with_len 0 n) (n ∷ [])

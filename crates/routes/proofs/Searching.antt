@@ -270,20 +270,17 @@ module _ {X : Type 0} (before : X → X → Bool) (longer : X → Link → X) (N
       omega (arith, r.hop.hops)
 
   -- the source is settled first, and its ways on are put into the empty queue
-  pub begins : (vs us q q2 : List (Settled X)) (a : Settled X) → vs ≡ [] → q ≡ [] → a ≡ source start s → us ≡ vs ++ a ∷ [] → IsPermutation (offers before longer N (vs ++ a ∷ []) (length vs, a) ++ q) q2 → length q2 ≤ length q + station_count N → station_count N ≤ 16 → Searching us q2 (length us)
+  pub begins : (vs us q q2 : List (Settled X)) (a : Settled X) → vs ≡ [] → q ≡ [] → a ≡ source start s → us ≡ vs ++ a ∷ [] → IsPermutation (offers before longer N us (length vs, a) ++ q) q2 → length q2 ≤ length q + station_count N → station_count N ≤ 16 → Searching us q2 (length us)
   begins vs us q q2 a none empty first is parts more few =
       let one : us ≡ source start s ∷ [] = is ∙ ap (λ ws. ws ++ a ∷ []) none ∙ ap (λ w. w ∷ []) first in
-      let parts1 = subst (λ ws. IsPermutation (offers before longer N (ws ++ a ∷ []) (length ws, a) ++ q) q2) none parts in
-      let parts2 = subst (λ ws. IsPermutation (offers before longer N (a ∷ []) (0, a) ++ ws) q2) empty parts1 in
-      let parts3 = subst (λ w. IsPermutation (offers before longer N (w ∷ []) (0, w) ++ []) q2) first parts2 in
-      subst (λ ws. Searching ws q2 (length ws)) (sym one)
-      (offered (source start s ∷ []) [] q2 0 (source start s) begun refl refl parts3 (subst (λ ws. length q2 ≤ length ws + station_count N) empty more) few)
+      let begun1 = subst (λ ws. Searching ws q (length vs)) (sym one) (subst (λ ws. Searching (source start s ∷ []) ws (length vs)) (sym empty) (subst (λ ws. Searching (source start s ∷ []) [] (length ws)) (sym none) begun)) in
+      offered us q q2 (length vs) a begun1 (ap length is ∙ length_push vs a ∙ add-one (length vs)) (ap (λ ws. slice_get ws (length vs)) is ∙ slice_get_push vs a) parts more few
 
   -- a turn in which the first way settles its station
-  pub turns : (us vs q q1 q2 : List (Settled X)) (w : Settled X) → Searching us q (length us) → IsFirst (way_before before) q w → IsPermutation q (w ∷ q1) → is_settled us w.station ≡ false → vs ≡ us ++ w ∷ [] → IsPermutation (offers before longer N (us ++ w ∷ []) (length us, w) ++ q1) q2 → length q2 ≤ length q1 + station_count N → station_count N ≤ 16 → Searching vs q2 (length vs)
+  pub turns : (us vs q q1 q2 : List (Settled X)) (w : Settled X) → Searching us q (length us) → IsFirst (way_before before) q w → IsPermutation q (w ∷ q1) → is_settled us w.station ≡ false → vs ≡ us ++ w ∷ [] → IsPermutation (offers before longer N vs (length us, w) ++ q1) q2 → length q2 ≤ length q1 + station_count N → station_count N ≤ 16 → Searching vs q2 (length vs)
   turns us vs q q1 q2 w h first parts fresh is new more few =
-      subst (λ ws. Searching ws q2 (length ws)) (sym is)
-      (offered (us ++ w ∷ []) q1 q2 (length us) w (pushed us q q1 w h first parts fresh) (length_push us w ∙ add-one (length us)) (slice_get_push us w) new more few)
+      offered vs q1 q2 (length us) w (subst (λ ws. Searching ws q1 (length us)) (sym is) (pushed us q q1 w h first parts fresh))
+      (ap length is ∙ length_push us w ∙ add-one (length us)) (ap (λ ws. slice_get ws (length us)) is ∙ slice_get_push us w) new more few
 
   -- then there were fewer stations than the network has
   pub room_for : (us q q1 : List (Settled X)) (w : Settled X) → Searching us q (length us) → IsFirst (way_before before) q w → IsPermutation q (w ∷ q1) → is_settled us w.station ≡ false → s < station_count N → length us + 1 ≤ station_count N

@@ -2,8 +2,8 @@
 use Rattle.std.specs.Prelude.{ℕ, ◌+◌, ◌-◌, ◌^◌, min, max, Bool, nat_lt}
 use Rattle.model.specs.Lengths.{ticks}
 use Rattle.model.specs.declared.network.Link.{Link}
-use Rattle.routes.specs.declared.kinds.HopCount.{HopCount}
-use Rattle.routes.specs.declared.kinds.Slowness.{Slowness}
+use Rattle.routes.specs.declared.kinds.hop_count.HopCount.{HopCount}
+use Rattle.routes.specs.declared.kinds.slowness.Slowness.{Slowness}
 
 -- x + n, but no more than the greatest number of 32 bits; an x that is beyond it stays
 abbrev pub capped_sum : ℕ → ℕ → ℕ

@@ -1,5 +1,6 @@
 pub mod Hops
 pub mod Legs
+pub mod RoutedPlans
 pub mod Laws
 pub mod Walks
 pub mod LengthLaws

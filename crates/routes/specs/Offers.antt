@@ -1,5 +1,5 @@
 -- What the steps of the search do.
-use Rattle.std.specs.Prelude.{ℕ, ◌<◌, Bool, if◌then◌else◌, All, List, [], Some, None, Option}
+use Rattle.std.specs.Prelude.{ℕ, Bool, if◌then◌else◌, List, [], Some, None, Option}
 use Rattle.std.specs.Option.{option_to_list}
 use Rattle.std.specs.List.{flat_map, range_with_len}
 use Rattle.model.specs.Data.{NetData, station_count}
@@ -23,7 +23,3 @@ offers_below before longer N us u n = flat_map (offer_to before longer N us u) (
 -- the same to every station
 abbrev pub offers : {X : Type 0} → (X → X → Bool) → (X → Link → X) → NetData → List (Settled X) → ℕ × Settled X → List (Settled X)
 offers before longer N us u = offers_below before longer N us u (station_count N)
-
--- no way has more hops than there are other stations
-abbrev pub AllShort : {X : Type 0} → List (Settled X) → Type 0
-AllShort us = All (λ u. u.hops < 16) us

@@ -1,55 +1,84 @@
 //! The legs of a transfer: its bookings in a plan, one for each hop of its route.
-ghost use Rattle.std.specs.Prelude.{◌≡◌, length};
-ghost use Rattle.std.specs.Option.{option_map};
-ghost use Rattle.std.specs.List.{slice_get};
-ghost use Rattle.model.specs.Data.{job_of, net_of};
-ghost use Rattle.model.specs.Plans.{plan_of};
-ghost use Rattle.routes.specs.Legs.{legs, way};
+ghost use Rattle.std.specs.Prelude.{◌≡◌};
+ghost use Rattle.model.specs.Data.{net_of};
+ghost use Rattle.routes.specs.Laws.{RouteLaws};
 
 use crate::interface::Routes;
 use model::network::MOST_STATIONS;
 use model::plan::measures::transfer_length;
 use model::{Booking, Edge, Job, Plan};
 
-/// The leg of edge `i` on its hop `k`.
-pub fn leg<R: Routes>(routes: &R, job: &Job, plan: &Plan, i: usize, k: usize) -> Option<Booking>
-    ensures { result ≡ slice_get (legs (job_of job.now) (net_of (R.Routes.over routes.now)) (R.Routes.route routes.now) (plan_of plan.now) i) k }
-{
-    let edge = job.edge(i)?;
-    let from = plan.task(edge.from)?;
-    let to = plan.task(edge.to)?;
-    if from.station == to.station {
-        return None;
-    }
-    let hop = routes.hop(from.station, to.station, k)?;
-    let start = plan.start(i, k)?;
-    let length = transfer_length(routes.network(), edge.volume, hop.link);
-    Some(Booking {
-        resource: MOST_STATIONS + hop.link,
-        start,
-        length,
-    })
+/// A plan of a job, with the routes by which its transfers go.
+/// `keeps` is what `R` promises of the routes; by it the definitions on this struct find the members of `R`.
+#[derive(Drop)]
+pub struct RoutedPlan<'a, R: Routes> {
+    pub routes: &'a R,
+    pub job: &'a Job,
+    pub plan: &'a Plan,
+    ghost keeps: { RouteLaws (net_of (R.Routes.over routes.now)) (R.Routes.route routes.now) },
 }
 
-/// How many hops an edge is booked on: none unless its tasks are placed on different stations,
-/// and `None` where there is no route between those.
-pub fn way_length<R: Routes>(routes: &R, plan: &Plan, edge: Edge) -> Option<usize>
-    ensures { result ≡ option_map length (way (R.Routes.route routes.now) (plan_of plan.now) edge) }
-{
-    let (Some(p), Some(q)) = (plan.task(edge.from), plan.task(edge.to)) else {
-        return Some(0);
-    };
-    if p.station == q.station {
-        return Some(0);
+impl<'a, R: Routes> RoutedPlan<'a, R> {
+    /// The plan with its job and the routes.
+    pub fn new(routes: &'a R, job: &'a Job, plan: &'a Plan) -> RoutedPlan<'a, R>
+        ensures routes { result.routes.now ≡ routes.now }
+        ensures job { result.job.now ≡ job.now }
+        ensures plan { result.plan.now ≡ plan.now }
+    {
+        RoutedPlan { routes, job, plan }
     }
-    routes.route_length(p.station, q.station)
 }
 
-/// How many legs edge `i` has.
-pub fn leg_count<R: Routes>(routes: &R, job: &Job, plan: &Plan, i: usize) -> usize
-    ensures { result ≡ length (legs (job_of job.now) (net_of (R.Routes.over routes.now)) (R.Routes.route routes.now) (plan_of plan.now) i) }
-{
-    job.edge(i)
-        .and_then(|e| way_length(routes, plan, e))
-        .map_or(0, |n| n.min(plan.start_count(i)))
+impl<R: Routes> RoutedPlan<'_, R> {
+    ghost use Rattle.std.specs.Prelude.{length, Some, []};
+    ghost use Rattle.std.specs.Option.{MatchOption, option_map};
+    ghost use Rattle.std.specs.List.{slice_get};
+    ghost use Rattle.routes.specs.Legs.{legs};
+    ghost use Rattle.routes.specs.RoutedPlans.{on, way_of};
+
+    /// The stations from which and to which the file of an edge goes: those of its two tasks,
+    /// if both are placed and the stations differ.
+    fn ends(&self, edge: Edge) -> Option<(usize, usize)>
+        ensures { MatchOption result (way_of self.now edge ≡ Some []) (λ ends. way_of self.now edge ≡ R.Routes.route self.now.routes.now ends.0 ends.1) }
+    {
+        let from = self.plan.task(edge.from)?.station;
+        let to = self.plan.task(edge.to)?.station;
+        (from != to).then_some((from, to))
+    }
+
+    /// The leg of edge `i` on its hop `k`.
+    pub fn leg(&self, i: usize, k: usize) -> Option<Booking>
+        ensures { result ≡ slice_get (on self.now legs i) k }
+    {
+        let edge = self.job.edge(i)?;
+        let (from, to) = self.ends(edge)?;
+        let hop = self.routes.hop(from, to, k)?;
+        let start = self.plan.start(i, k)?;
+        Some(Booking {
+            resource: MOST_STATIONS + hop.link,
+            start,
+            length: transfer_length(self.routes.network(), edge.volume, hop.link),
+        })
+    }
+
+    /// How many hops an edge is booked on: none unless its tasks are placed on different stations,
+    /// and `None` where there is no route between those.
+    pub fn way_length(&self, edge: Edge) -> Option<usize>
+        ensures { result ≡ option_map length (way_of self.now edge) }
+    {
+        self.ends(edge)
+            .map_or(Some(0), |(from, to)| self.routes.route_length(from, to))
+    }
+
+    /// How many legs edge `i` has.
+    pub fn leg_count(&self, i: usize) -> usize
+        ensures { result ≡ length (on self.now legs i) }
+    {
+        // Not `and_then`: the proof learns nothing of what a closure that calls `way_length` answers.
+        let Some(edge) = self.job.edge(i) else {
+            return 0;
+        };
+        let hops = self.way_length(edge).unwrap_or(0);
+        hops.min(self.plan.start_count(i))
+    }
 }

@@ -1,4 +1,5 @@
-//! Routes over a network: what every kind of routes promises, and routes that are written out.
+//! Routes over a network: what every kind of routes promises, routes that are written out, routes that are searched,
+//! and plans with the routes by which their transfers go.
 #![tactic(auto)]
 
 pub mod hop;
@@ -14,6 +15,7 @@ pub mod written;
 pub use hop::Hop;
 pub use interface::Routes;
 pub use kinds::{HopCount, Slowness};
+pub use legs::RoutedPlan;
 pub use length::Length;
 pub use searched::SearchedRoutes;
 pub use settled::Settled;

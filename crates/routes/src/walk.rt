@@ -11,15 +11,12 @@ use model::plan::MOST_HOPS;
 fn is_walk(network: &Network, from: usize, to: usize, hops: &[Hop]) -> bool
     ensures { result ≡ is_walk (net_of network.now) from to hops.now }
 {
-    // A loop, not `try_fold`, by which an `Option` of the station would be carried on and compared with `Some(to)`.
-    let mut here = from;
-    for hop in hops {
-        if !network.carries(hop.link, here, hop.station) {
-            return false;
+    match hops {
+        [] => from == to,
+        [hop, later @ ..] => {
+            network.carries(hop.link, from, hop.station) && is_walk(network, hop.station, to, later)
         }
-        here = hop.station;
     }
-    here == to
 }
 
 /// Whether one of `hops` is over `link`.
@@ -33,13 +30,10 @@ fn uses(link: usize, hops: &[Hop]) -> bool
 fn is_fresh(hops: &[Hop]) -> bool
     ensures { result ≡ is_fresh hops.now }
 {
-    // A loop, not `all`: its closure would have to say that the later hops begin within the slice.
-    for (i, hop) in hops.iter().enumerate() {
-        if uses(hop.link, &hops[i + 1..]) {
-            return false;
-        }
+    match hops {
+        [] => true,
+        [hop, later @ ..] => !uses(hop.link, later) && is_fresh(later),
     }
-    true
 }
 
 /// Whether `hops` are a route from `from` to `to`, another station.

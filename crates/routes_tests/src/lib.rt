@@ -17,6 +17,7 @@ pub fn walked<R: Routes>(routes: &R, from: usize, to: usize) -> Option<usize>
 {
     let count = routes.route_length(from, to)?;
     let mut here = from;
+    // A loop, since `try_fold` would carry a station that its closure does not read.
     for i in 0..count {
         here = routes.hop(from, to, i)?.station;
     }

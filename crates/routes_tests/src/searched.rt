@@ -24,12 +24,10 @@ struct Shape<'a> {
 type Way<'a> = (usize, usize, Option<&'a [(usize, usize)]>);
 
 fn link(stations: &[usize], rate: u32) -> Link {
-    let mut set = StationSet::new();
-    for station in stations {
-        set.insert(*station);
-    }
     Link {
-        stations: set,
+        stations: stations
+            .iter()
+            .fold(StationSet::new(), |set, station| set.with(*station)),
         speed: Speed { rate },
     }
 }

@@ -26,17 +26,15 @@ const LINE_ROWS: [Row; 10] = [
 ];
 
 fn hop_list(heap: Global, row: Row) -> Result<Option<Vec<Hop>>, AllocError> {
-    let Some(hops) = row else {
-        return Ok(None);
-    };
-    let hops = hops
-        .iter()
-        .map(|(link, station)| Hop {
-            link: *link,
-            station: *station,
-        })
-        .collect(heap)?;
-    Ok(Some(hops))
+    row.map(|hops| {
+        hops.iter()
+            .map(|(link, station)| Hop {
+                link: *link,
+                station: *station,
+            })
+            .collect(heap)
+    })
+    .transpose()
 }
 
 fn table(heap: Global, rows: &[Row]) -> Result<Vec<Option<Vec<Hop>>>, AllocError> {
@@ -46,11 +44,8 @@ fn table(heap: Global, rows: &[Row]) -> Result<Vec<Option<Vec<Hop>>>, AllocError
 }
 
 fn link(a: usize, b: usize) -> Link {
-    let mut stations = StationSet::new();
-    stations.insert(a);
-    stations.insert(b);
     Link {
-        stations,
+        stations: StationSet::new().with(a).with(b),
         speed: Speed { rate: 10 },
     }
 }

@@ -5,6 +5,7 @@ use Rattle.std.specs.List.{AllByRecursion}
 use Rattle.std.proofs.lemmas.List.Elements.{All-from_recursion, recursion_from_All}
 use Rattle.std.specs.Option.{option_map}
 use Rattle.std.proofs.lemmas.Bool.Decides.{nat_tests}
+use Rattle.script.proofs.Hops.{one_more}
 use Rattle.script.specs.Data.{LineData, task, edge, machine, switch, link, routes, route, bookings, answer, row, starts, mark}
 use Rattle.script.specs.Form.{form_named}
 use Rattle.script.specs.Number.{numbers_of}
@@ -132,15 +133,11 @@ pub same_link : (ns : List ℕ) → link_of ns ≡ earlier_link_of ns
 same_link [] = refl
 same_link (a ∷ ns) = grind (arith, nat_tests)
 
-hops_more : (h : HopWords) (o : Option (List HopWords)) (hs : List HopWords) (n : ℕ) → o ≡ cond (n % 2 == 0) (Some hs) None → option_map (λ rest. h ∷ rest) o ≡ cond (suc (suc n) % 2 == 0) (Some (h ∷ hs)) None
-hops_more h None hs n is = grind (arith, nat_tests)
-hops_more h (Some rest) hs n is = grind (arith, nat_tests)
-
 -- the numbers are hops if they come in pairs
 pub same_hops : (ns : List ℕ) → hops_of ns ≡ cond (length ns % 2 == 0) (Some (earlier_hops_of ns)) None
 same_hops [] = refl
 same_hops (l ∷ []) = refl
-same_hops (l ∷ s ∷ ns) = hops_more (record { link = l; station = s }) (hops_of ns) (earlier_hops_of ns) (length ns) (same_hops ns)
+same_hops (l ∷ s ∷ ns) = one_more (record { link = l; station = s }) (hops_of ns) (earlier_hops_of ns) (length ns) (same_hops ns)
 
 mapped_route : (from to : ℕ) (o : Option (List HopWords)) (hs : List HopWords) (n : ℕ) → o ≡ cond (n % 2 == 0) (Some hs) None → option_map (route from to) o ≡ cond (nat_le 2 (suc (suc n)) && n % 2 == 0) (Some (route from to hs)) None
 mapped_route from to None hs n is = grind (arith, nat_tests)

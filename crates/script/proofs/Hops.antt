@@ -6,7 +6,8 @@ use Rattle.script.specs.Left.{paired}
 use Rattle.script.specs.Statement.{hops_of}
 use Rattle.script.specs.declared.line.HopWords.{HopWords}
 
-one_more : (h : HopWords) (o : Option (List HopWords)) (hs : List HopWords) (n : ℕ) → o ≡ cond (eqb (n % 2) 0) (Some hs) None → option_map (λ rest. h ∷ rest) o ≡ cond (eqb (suc (suc n) % 2) 0) (Some (h ∷ hs)) None
+-- two more numbers are one more hop
+pub one_more : (h : HopWords) (o : Option (List HopWords)) (hs : List HopWords) (n : ℕ) → o ≡ cond (eqb (n % 2) 0) (Some hs) None → option_map (λ rest. h ∷ rest) o ≡ cond (eqb (suc (suc n) % 2) 0) (Some (h ∷ hs)) None
 one_more h None hs n is = grind (arith, nat_tests)
 one_more h (Some rest) hs n is = grind (arith, nat_tests)
 

@@ -35,7 +35,8 @@ no_word bs none = grind (arith, words_past_blanks bs, all_blank bs)
 pub first_word : (bs : List ℕ) → 0 < prefix_len solid (past_blanks bs) → words_of bs ≡ take (prefix_len solid (past_blanks bs)) (past_blanks bs) ∷ words_of (drop (prefix_len solid (past_blanks bs)) (past_blanks bs))
 first_word bs some = grind (arith, common_steps, words_past_blanks bs, words_past_solids [] (past_blanks bs))
 
-few_ended : (w : List ℕ) → length (ended w []) ≤ length w
+-- a piece that ends gives no more pieces than it has bytes
+pub few_ended : (w : List ℕ) → length (ended w []) ≤ length w
 few_ended [] = omega arith
 few_ended (b ∷ w) = omega arith
 

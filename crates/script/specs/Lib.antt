@@ -3,6 +3,7 @@ pub mod Lines
 pub mod Number
 pub mod Left
 pub mod Spelling
+pub mod Error
 pub mod Tell
 pub mod Data
 pub mod Form

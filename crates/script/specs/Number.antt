@@ -2,7 +2,6 @@
 use Rattle.std.specs.Prelude.{ℕ, ◌+◌, ◌-◌, ◌*◌, ◌^◌, Bool, if◌then◌else◌, not, ◌&&◌, List, [], ◌∷◌, length, Some, None, Ok, Err, Option, Result, ◌==◌, nat_lt}
 use Rattle.std.specs.Option.{option_map}
 use Rattle.std.specs.Str.{all_ascii_digits}
-use Rattle.script.specs.Words.{words_of}
 use Rattle.script.specs.declared.error.LineError.{LineError}
 use Rattle.script.specs.declared.error.LineError.TheVariants.{NotUnderstood}
 
@@ -31,15 +30,6 @@ put_before (Some n) ns = option_map (λ rest. n ∷ rest) ns
 abbrev pub numbers_of : List (List ℕ) → Option (List ℕ)
 numbers_of [] = Some []
 numbers_of (w ∷ ws) = put_before (number_of w) (numbers_of ws)
-
--- the numbers of the words of a text, if each is a number
-abbrev pub numbers_in : List ℕ → Option (List ℕ)
-numbers_in bs = numbers_of (words_of bs)
-
--- the number that the first word spells
-abbrev pub first_number : List (List ℕ) → Option ℕ
-first_number [] = None
-first_number (w ∷ ws) = number_of w
 
 -- the numbers, if these are n
 abbrev pub exactly_of : ℕ → Option (List ℕ) → Result (List ℕ) LineError

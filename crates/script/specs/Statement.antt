@@ -3,7 +3,7 @@ use Rattle.std.specs.Prelude.{ℕ, if◌then◌else◌, ◌&&◌, List, [], ◌�
 use Rattle.std.specs.Option.{option_map, option_and_then}
 use Rattle.script.specs.Data.{LineData, task, edge, machine, switch, link, routes, route, bookings, answer, row, starts, mark}
 use Rattle.script.specs.Form.{form_named}
-use Rattle.script.specs.Number.{number_of, numbers_of}
+use Rattle.script.specs.Number.{numbers_of}
 use Rattle.script.specs.Words.{named, same_word}
 use Rattle.script.specs.declared.form.Form.{Form}
 use Rattle.script.specs.declared.form.Form.TheVariants.{Task, Edge, Machine, Switch, Link, Route, Bookings, Answer, Row, Starts, Mark}
@@ -31,11 +31,6 @@ alone_of d _ = None
 abbrev pub link_of : List ℕ → Option LineData
 link_of (speed ∷ stations) = Some (link speed stations)
 link_of [] = None
-
--- the hop that the first two words spell, a link and a station
-abbrev pub first_hop : List (List ℕ) → Option HopWords
-first_hop (w ∷ v ∷ ws) = option_and_then (λ l. option_map (λ s. record { link = l; station = s }) (number_of v)) (number_of w)
-first_hop _ = None
 
 -- each two numbers are a hop
 abbrev pub hops_of : List ℕ → Option (List HopWords)

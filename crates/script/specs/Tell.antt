@@ -1,5 +1,5 @@
 -- What the reader's answers tell of the bytes.
-use Rattle.std.specs.Prelude.{◌≡◌, Bool, IsTrue, List, length, Some, None, Ok, Err, Option, Result, Vec, vec_items, IsSomeAnd, nat_lt}
+use Rattle.std.specs.Prelude.{◌≡◌, Bool, IsTrue, Some, None, Ok, Err, Option, Result, IsSomeAnd}
 use Rattle.script.specs.Data.{LineData, line_data, takes_memory}
 use Rattle.script.specs.declared.error.LineError.{LineError}
 use Rattle.script.specs.declared.error.LineError.TheVariants.{NotUnderstood, Memory}
@@ -14,7 +14,3 @@ Tells f takes (Err Memory) said = IsSomeAnd said (λ y. IsTrue (takes y))
 
 abbrev pub TellsLine : Result Line LineError → Option LineData → Type 0
 TellsLine r said = Tells line_data takes_memory r said
-
--- a list takes memory where it is not empty
-abbrev pub TellsList : {X Z : Type 0} → Result (Vec X Z) LineError → Option (List X) → Type 0
-TellsList r said = Tells vec_items (λ xs. nat_lt 0 (length xs)) r said

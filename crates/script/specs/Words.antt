@@ -14,6 +14,10 @@ solid b = not (blank b)
 abbrev pub other_than : ℕ → ℕ → Bool
 other_than c b = not (b == c)
 
+-- whatever a test answers of a byte is what `passes` says of it
+abbrev pub TestsBy : (ℕ → Bool → Type 0) → (ℕ → Bool) → Type 0
+TestsBy answers passes = (b : ℕ) (r : Bool) → answers b r → r ≡ passes b
+
 -- what stands before the first `#`, which is byte 35
 abbrev pub uncommented : List ℕ → List ℕ
 uncommented [] = []

@@ -20,7 +20,7 @@ impl<'a> Hops<'a> {
     pub fn new(numbers: Numbers<'a>) -> Option<Hops<'a>>
         ensures { option_map hops_left result ≡ hops_of (numbers_left numbers.entry) }
     {
-        (numbers.len() % 2 == 0).then_some(Hops { numbers })
+        numbers.len().is_multiple_of(2).then_some(Hops { numbers })
     }
 }
 

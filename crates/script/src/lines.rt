@@ -5,7 +5,7 @@ ghost use Rattle.std.specs.Option.{option_map};
 ghost use Rattle.std.specs.List.{slice_get};
 ghost use Rattle.script.specs.Lines.{Splits, lines_left, lines_of};
 
-use crate::words::find_byte;
+use crate::words::count_while;
 
 /// The lines of a text that are still to come.
 #[derive(Drop)]
@@ -45,7 +45,7 @@ impl<'a> Iterator for Lines<'a> {
         if text.is_empty() {
             return None;
         }
-        let end = find_byte(text, b'\n');
+        let end = count_while(text, |byte| byte != b'\n');
         let next = text.len().min(end + 1);
         self.rest = &text[next..];
         Some(&text[..end])

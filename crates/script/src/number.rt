@@ -9,10 +9,11 @@ ghost use Rattle.script.specs.Words.{words_left};
 
 use crate::error::LineError;
 use crate::words::Words;
+use std::array;
 
 /// The number that `word` spells: decimal digits alone, of a value up to 4294967295.
 /// Zeros may stand in front, in any number: `007` is 7.
-#[tactic(auto, using(crate::proofs::Numbers::value_grows, crate::proofs::Numbers::digits_at, crate::proofs::Numbers::value_at, crate::proofs::Spelled::spells_answer))]
+#[tactic(auto, using(crate::proofs::Numbers::value_grows, crate::proofs::Numbers::value_at))]
 pub fn read_number(word: &[u8]) -> Option<u32>
     ensures value { result ≡ number_of word.now }
     ensures spells { MatchOption result ((n : ℕ) → Spells word.now n → ⊥) (λ n. Spells word.now n) }
@@ -64,13 +65,11 @@ impl<'a> Numbers<'a> {
     pub fn exactly<const N: usize>(mut self) -> Result<[u32; N], LineError>
         ensures { result ≡ exactly_of N (Some (numbers_left self.entry)) }
     {
-        // Filled by a loop: of a closure that takes from `self`, nothing would be known of what it took.
-        let mut numbers = [0; N];
-        for number in &mut numbers {
-            *number = self.next().ok_or(LineError::NotUnderstood)?;
+        if self.len() != N {
+            return Err(LineError::NotUnderstood);
         }
-        let ended = self.next().is_none();
-        ended.then_some(numbers).ok_or(LineError::NotUnderstood)
+        // `N` numbers are left, so the 0 is never taken. Not an `unwrap`: what is left at a call is out of the closure's reach.
+        Ok(array::from_fn(|_| self.next().unwrap_or(0)))
     }
 }
 

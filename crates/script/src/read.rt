@@ -20,6 +20,5 @@ pub fn read_line(heap: Global, line: &[u8]) -> Result<Option<Line>, LineError>
     let Some(word) = words.next() else {
         return Ok(None);
     };
-    let said = statement_of(heap, word, words)?;
-    Ok(Some(said))
+    statement_of(heap, word, words).map(Some)
 }

@@ -17,6 +17,8 @@ use crate::number::Numbers;
 use crate::words::Words;
 use std::alloc::Global;
 
+// These are the limits of plans and rolls, said again, since this crate stands on no other.
+
 /// The size of the largest list of bookings.
 const MOST_BOOKINGS: u32 = 4096;
 /// The largest task of a row.
@@ -121,7 +123,7 @@ fn starts(heap: Global, mut numbers: Numbers) -> Result<Line, LineError>
 fn numbered(heap: Global, form: Form, numbers: Numbers) -> Result<Line, LineError>
     ensures { TellsLine result (form_line form (numbers_left numbers.entry)) }
 {
-    // A `match`, so that no form is left without its line.
+    // By form and not by word: what the numbers of a line say is defined over the forms.
     match form {
         Form::Task => task(numbers),
         Form::Edge => edge(numbers),
@@ -161,8 +163,7 @@ fn routes(mut words: Words) -> Result<Line, LineError>
     let (Some(word), None) = (words.next(), words.next()) else {
         return Err(LineError::NotUnderstood);
     };
-    let kind = RouteKind::try_from(word)?;
-    Ok(Line::Routes(kind))
+    RouteKind::try_from(word).map(Line::Routes)
 }
 
 /// What a line says that begins with `word`, before `words`.

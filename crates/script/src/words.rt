@@ -1,8 +1,8 @@
 //! Parts a line into its words.
-ghost use Rattle.std.specs.Prelude.{◌≡◌, ◌≤◌, length};
+ghost use Rattle.std.specs.Prelude.{◌≡◌, ◌≤◌, ℕ, Bool, length};
 ghost use Rattle.std.specs.Iterator.{YieldsFirstRef, item_count};
 ghost use Rattle.std.specs.List.{prefix_len};
-ghost use Rattle.script.specs.Words.{blank, solid, other_than, uncommented, words_of, words_left, Parted};
+ghost use Rattle.script.specs.Words.{blank, uncommented, words_of, words_left, Parted, TestsBy};
 
 /// Whether `byte` parts words: a space, a tab or a carriage return.
 fn is_blank(byte: u8) -> bool
@@ -11,31 +11,13 @@ fn is_blank(byte: u8) -> bool
     matches!(byte, b' ' | b'\t' | b'\r')
 }
 
-// Each of the next three names its test in its contract: with a closure for it, a clause would first have to say what
-// the closure tests.
-
-/// How many blanks `text` begins with.
-fn count_blanks(text: &[u8]) -> usize
+/// How many bytes at the front of `text` pass `test`, up to the first that does not.
+pub(crate) fn count_while<F: Fn(u8) -> bool>(text: &[u8], test: F) -> usize
+    requires { F.IsAlwaysCallable test }
     ensures within { result ≤ length text.now }
-    ensures value { result ≡ prefix_len blank text.now }
+    ensures value { (passes : ℕ → Bool) → TestsBy (F.post test) passes → result ≡ prefix_len passes text.now }
 {
-    text.iter().take_while(|byte| is_blank(**byte)).count()
-}
-
-/// How many bytes that are no blanks `text` begins with.
-fn count_solids(text: &[u8]) -> usize
-    ensures within { result ≤ length text.now }
-    ensures value { result ≡ prefix_len solid text.now }
-{
-    text.iter().take_while(|byte| !is_blank(**byte)).count()
-}
-
-/// The place of the first `sought` in `text`, or the length of `text` where there is none.
-pub fn find_byte(text: &[u8], sought: u8) -> usize
-    ensures within { result ≤ length text.now }
-    ensures value { result ≡ prefix_len (other_than sought) text.now }
-{
-    text.iter().take_while(|byte| **byte != sought).count()
+    text.iter().take_while(|byte| test(**byte)).count()
 }
 
 /// The line without its comment, which begins at the first `#`.
@@ -43,7 +25,7 @@ pub fn find_byte(text: &[u8], sought: u8) -> usize
 pub fn without_comment(line: &[u8]) -> &[u8]
     ensures { result.now ≡ uncommented line.now }
 {
-    let end = find_byte(line, b'#');
+    let end = count_while(line, |byte| byte != b'#');
     &line[..end]
 }
 
@@ -52,9 +34,9 @@ pub fn without_comment(line: &[u8]) -> &[u8]
 fn next_word(text: &[u8]) -> Option<(&[u8], &[u8])>
     ensures { Parted result text.now }
 {
-    let start = count_blanks(text);
+    let start = count_while(text, is_blank);
     let word = &text[start..];
-    let end = count_solids(word);
+    let end = count_while(word, |byte| !is_blank(byte));
     (end > 0).then_some(word.split_at(end))
 }
 

@@ -127,6 +127,17 @@ fn reads_numbers(rt: HostRuntime) {
 }
 
 #[test]
+fn prints_errors(rt: HostRuntime) -> Result<(), Fail> {
+    let heap = rt.alloc();
+    assert_eq!(rt;
+        LineError::NotUnderstood.to_string(heap)?.as_str(),
+        "not understood"
+    );
+    assert_eq!(rt; LineError::Memory.to_string(heap)?.as_str(), "no memory");
+    Ok(())
+}
+
+#[test]
 fn reads_kinds_of_routes(rt: HostRuntime) {
     assert_eq!(rt;
         RouteKind::try_from(b"hops".as_slice()),

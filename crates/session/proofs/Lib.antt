@@ -1,4 +1,4 @@
 pub mod Pairs
 pub mod Taken
 pub mod Reading
-pub mod Rows
+pub mod Sets

@@ -17,7 +17,7 @@ use Rattle.session.specs.RouteRows.{row_between}
 use Rattle.session.specs.Settings.{with_route}
 
 -- two functions that are the same from the number a on
-range_same : {A : Type 0} (f g : ℕ → A) (a n : ℕ) → ((k : ℕ) → a ≤ k → g k ≡ f k) → map g (range_with_len a n) ≡ map f (range_with_len a n)
+pub range_same : {A : Type 0} (f g : ℕ → A) (a n : ℕ) → ((k : ℕ) → a ≤ k → g k ≡ f k) → map g (range_with_len a n) ≡ map f (range_with_len a n)
 range_same f g a zero same = refl
 range_same f g a (suc n) same =
     ap (λ x. x ∷ map g (range_with_len (a + 1) n)) (same a (omega arith))

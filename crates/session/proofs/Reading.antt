@@ -1,19 +1,16 @@
 -- How the statements of a script come from its lines, one by one.
-use Rattle.std.proofs.Common.{◌≡◌, ℕ, ◌+◌, ◌≤◌, List, [], ◌∷◌, ◌++◌, length, drop, Some, None, true, false, sym, ap, ◌∙◌, refl, arith, if◌then◌else◌, ◌==◌, IsTrue, Ok, Err, Option, Result, IsErrAnd, subst}
+use Rattle.std.proofs.Common.{◌≡◌, ℕ, ◌+◌, ◌≤◌, List, [], ◌∷◌, ◌++◌, length, drop, Some, None, true, false, sym, ap, ◌∙◌, refl, arith, if◌then◌else◌, ◌==◌, IsTrue, Ok, Err, Option, Result, subst}
 use Rattle.std.specs.List.{slice_get}
+use Rattle.std.specs.Result.{result_transpose}
 use Rattle.std.proofs.lemmas.List.{length_push}
+use Rattle.script.proofs.Parting.{few_ended}
 use Rattle.script.specs.Data.{LineData, line_data, takes_memory}
 use Rattle.script.specs.Lines.{lines_after, lines_of}
 use Rattle.script.specs.Read.{Answer, silent, says, not_understood, read, TakesMemory, Reads}
-use Rattle.script.specs.Words.{ended}
 use Rattle.script.specs.declared.error.LineError.{LineError}
 use Rattle.script.specs.declared.error.LineError.TheVariants.{NotUnderstood, Memory}
 use Rattle.script.specs.declared.line.Line.{Line}
-use Rattle.session.specs.Statements.{Statement, stated, statements, GivesFirst}
-
-few_ended : (l : List ℕ) → length (ended l []) ≤ length l
-few_ended [] = omega arith
-few_ended (b ∷ l) = omega arith
+use Rattle.session.specs.Statements.{Statement, stated, statements, IsFirst}
 
 few_after : (l bs : List ℕ) → length (lines_after l bs) ≤ length l + length bs
 few_after l [] = omega (arith, few_ended l)
@@ -48,16 +45,18 @@ takes not_understood h = absurd h
 
 module _ (n : ℕ) (before : List Statement) (l : List ℕ) (ls ls' : List (List ℕ)) (so_far : statements n ls ≡ before) (p : Comes l ls ls') where
   -- a line that is understood is given first
-  pub line_given : (line : Line) → read l ≡ says (line_data line) → before ≡ record { number = n + 1; said = Some (line_data line) } ∷ statements (n + 1) ls'
+  line_given : (line : Line) → read l ≡ says (line_data line) → before ≡ record { number = n + 1; said = Some (line_data line) } ∷ statements (n + 1) ls'
   line_given line is = sym so_far ∙ first_stated n l ls ls' p ∙ ap (λ a. stated (n + 1) a (statements (n + 1) ls')) is
 
   -- so is why a line was not read
-  error_given : (e : LineError) → Reads (Err e) (read l) → GivesFirst (Err e) (n + 1) before (statements (n + 1) ls')
+  error_given : (e : LineError) → Reads (Err e) (read l) → IsFirst (Some (Err e)) (n + 1) before (statements (n + 1) ls')
   error_given NotUnderstood is = sym so_far ∙ first_stated n l ls ls' p ∙ ap (λ a. stated (n + 1) a (statements (n + 1) ls')) is
   error_given Memory h =
       let t = takes (read l) h in
       (t.0, sym so_far ∙ first_stated n l ls ls' p ∙ ap (λ a. stated (n + 1) a (statements (n + 1) ls')) t.1, t.2)
 
-  pub result_given : (r : Result (Option Line) LineError) (e : LineError) → IsErrAnd r (λ f. f ≡ e) → Reads (Err e) (read l) → GivesFirst r (n + 1) before (statements (n + 1) ls')
-  result_given (Ok line) e none h = absurd none
-  result_given (Err f) e same h = subst (λ g. GivesFirst (Err g) (n + 1) before (statements (n + 1) ls')) (sym same) (error_given e h)
+  -- what a line answers, if it has a word
+  pub item_given : (r : Result (Option Line) LineError) (x : Result Line LineError) → Some x ≡ result_transpose r → Reads r (read l) → IsFirst (Some x) (n + 1) before (statements (n + 1) ls')
+  item_given (Ok None) x none h = cc
+  item_given (Ok (Some line)) x same h = subst (λ y. IsFirst y (n + 1) before (statements (n + 1) ls')) (sym same) (line_given line h)
+  item_given (Err e) x same h = subst (λ y. IsFirst y (n + 1) before (statements (n + 1) ls')) (sym same) (error_given e h)

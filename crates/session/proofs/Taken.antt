@@ -1,16 +1,16 @@
 -- Rows of routes that are moved out of a list one by one, and put in order into another.
-use Rattle.std.proofs.Common.{◌≡◌, ℕ, zero, suc, ◌+◌, ◌*◌, ◌<◌, ◌≤◌, ◌&&◌, nat_lt, List, [], ◌∷◌, ◌++◌, map, Some, None, vec_items, Option, Vec, slice_set, slice_index_or, if◌then◌else◌, ◌==◌, refl, sym, ap, ◌∙◌, add-one, zero-add, append_assoc, arith}
+use Rattle.std.proofs.Common.{◌≡◌, ℕ, ◌+◌, ◌*◌, ◌<◌, ◌≤◌, ◌&&◌, nat_lt, List, [], ◌∷◌, ◌++◌, map, Some, None, vec_items, Option, Vec, slice_set, slice_index_or, if◌then◌else◌, ◌==◌, sym, ap, ◌∙◌, append_assoc, arith}
 use Rattle.std.specs.Option.{option_map}
 use Rattle.std.specs.List.{flat_map, range_with_len}
-use Rattle.std.proofs.lemmas.List.{append-nil, map-append, get_or-set_other}
+use Rattle.std.proofs.lemmas.List.{map-append, get_or-set_other}
 use Rattle.std.proofs.lemmas.List.FromFn.{map-range_with_len_more}
-use Rattle.std.proofs.lemmas.Grind.{flat_map-append}
 use Rattle.std.proofs.lemmas.Bool.{and_from, cond-true, lt-ltb}
 use Rattle.model.specs.Refusals.{or_else}
-use Rattle.routes.proofs.Offered.{range_more}
+use Rattle.routes.proofs.Offered.{flat_map_range_more}
 use Rattle.routes.specs.Tables.{rows_of}
 use Rattle.routes.specs.declared.hop.Hop.{Hop}
 use Rattle.session.specs.RouteRows.{SameFrom, row_between}
+use Rattle.session.proofs.Pairs.{range_same}
 
 -- between two of the 16 stations the first of two is meant
 pub chosen : {A : Type 0} (s t : ℕ) (x a b : A) → s < 16 → t < 16 → x ≡ (if nat_lt s 16 && nat_lt t 16 then a else b) → x ≡ a
@@ -38,25 +38,13 @@ one_goal_more base rows more xs ys row s t so_far same is pushed =
     ∙ ap (λ r. base ++ (map (row_between xs s) (range_with_len 0 t) ++ r ∷ [])) here
     ∙ ap (λ rs. base ++ rs) (sym (map-range_with_len_more (row_between xs s) 0 t t (omega arith)))
 
--- two functions of the same values at the numbers from a on
-pub map_same : {A : Type 0} (f g : ℕ → A) (a n : ℕ) → ((t : ℕ) → f t ≡ g t) → map f (range_with_len a n) ≡ map g (range_with_len a n)
-map_same f g a zero same = refl
-map_same f g a (suc n) same = ap (λ x. x ∷ map f (range_with_len (a + 1) n)) (same a) ∙ ap (λ xs. g a ∷ xs) (map_same f g (a + 1) n same)
-
-flat_map_range_more : {A : Type 0} (f : ℕ → List A) (n : ℕ) → flat_map f (range_with_len 0 (n + 1)) ≡ flat_map f (range_with_len 0 n) ++ f n
-flat_map_range_more f n =
-    ap (λ k. flat_map f (range_with_len 0 k)) (add-one n)
-    ∙ ap (flat_map f) (range_more 0 n ∙ ap (λ b. range_with_len 0 n ++ b ∷ []) (zero-add n))
-    ∙ flat_map-append f (range_with_len 0 n) (n ∷ [])
-    ∙ ap (λ xs. flat_map f (range_with_len 0 n) ++ xs) (append-nil (f n))
-
 -- one origin more
 pub one_origin_more : (rows more xs ys : List (Option (List Hop))) (s n : ℕ) → rows ≡ flat_map (λ u. map (row_between xs u) (range_with_len 0 n)) (range_with_len 0 s) → SameFrom (16 * s) xs ys
     → more ≡ rows ++ map (row_between ys s) (range_with_len 0 n) → more ≡ flat_map (λ u. map (row_between xs u) (range_with_len 0 n)) (range_with_len 0 (s + 1))
 one_origin_more rows more xs ys s n so_far same pushed =
     let rows_from : ℕ → List (Option (List Hop)) = λ u. map (row_between xs u) (range_with_len 0 n) in
     pushed ∙ ap (λ rs. rs ++ map (row_between ys s) (range_with_len 0 n)) so_far
-    ∙ ap (λ rs. flat_map rows_from (range_with_len 0 s) ++ rs) (map_same (row_between ys s) (row_between xs s) 0 n (λ t. same_row xs ys (16 * s) s t same (omega arith)))
+    ∙ ap (λ rs. flat_map rows_from (range_with_len 0 s) ++ rs) (range_same (row_between xs s) (row_between ys s) 0 n (λ t _. same_row xs ys (16 * s) s t same (omega arith)))
     ∙ sym (flat_map_range_more rows_from s)
 
 -- the same from an earlier place and from a later one

@@ -7,3 +7,4 @@ pub mod Stops
 pub mod Answers
 pub mod Sessions
 pub mod Following
+pub mod Makings

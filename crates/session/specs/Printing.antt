@@ -1,6 +1,7 @@
 -- The lines that the program prints, each with a newline at its end.
-use Rattle.std.specs.Prelude.{ℕ, List, [], ◌∷◌, length, codes, decimal}
+use Rattle.std.specs.Prelude.{ℕ, List, [], ◌∷◌, length, OnOk, Option, Result, codes, decimal}
 use Rattle.std.specs.List.{concat}
+use Rattle.std.specs.Io.KnownBytes.{Appends}
 use Rattle.model.specs.Data.{JobData, NetData, task_count, station_count, link_count}
 use Rattle.model.specs.Plans.{PlanData, placed_count, plan_length}
 use Rattle.model.specs.Refusals.{refusal_number, refusal_detail}
@@ -12,6 +13,10 @@ use Rattle.script.specs.declared.line.RouteKind.{RouteKind}
 use Rattle.script.specs.declared.line.RouteKind.TheVariants.{Hops, Slowness, Written}
 use Rattle.session.specs.declared.stop.Maker.{Maker}
 use Rattle.session.specs.declared.stop.Maker.TheVariants.{Job, Network, Routes}
+
+-- what ends well has written the text after what was written before; `contents` says what that is
+abbrev pub Adds : {W E : Type 0} → (W → Option (List ℕ)) → Result (Unit {0}) E → W → W → List ℕ → Type 0
+Adds contents result old new text = OnOk result (Appends (contents old) (contents new) text)
 
 -- what is made of a setting, by its name
 abbrev pub maker_name : Maker → List ℕ

@@ -1,5 +1,5 @@
 -- The statements of a script: the lines that have a word, each with its number.
-use Rattle.std.specs.Prelude.{◌≡◌, ℕ, ◌+◌, ◌<◌, ◌≤◌, IsTrue, List, [], ◌∷◌, length, Some, None, Ok, Err, Option, Result}
+use Rattle.std.specs.Prelude.{◌≡◌, ◌≤◌, ℕ, ◌+◌, IsTrue, List, [], ◌∷◌, length, Some, None, Ok, Err, Option, Result}
 use Rattle.std.specs.Option.{option_map_or}
 use Rattle.script.specs.Data.{LineData, line_data, takes_memory}
 use Rattle.script.specs.Lines.{lines_left}
@@ -39,18 +39,16 @@ abbrev pub to_come : Reader → List Statement
 to_come r = put_back r.number r.handed_back (unread r)
 
 -- the answer is the first statement of those before, with this number, and the others are those after
-abbrev pub GivesFirst : Result (Option Line) LineError → ℕ → List Statement → List Statement → Type 0
-GivesFirst (Ok None) n before after = (before ≡ []) × (after ≡ [])
-GivesFirst (Ok (Some l)) n before after = before ≡ record { number = n; said = Some (line_data l) } ∷ after
-GivesFirst (Err NotUnderstood) n before after = before ≡ record { number = n; said = None } ∷ after
-GivesFirst (Err Memory) n before after = (d : LineData) × (before ≡ record { number = n; said = Some d } ∷ after) × IsTrue (takes_memory d)
+abbrev pub IsFirst : Option (Result Line LineError) → ℕ → List Statement → List Statement → Type 0
+IsFirst None n before after = (before ≡ []) × (after ≡ [])
+IsFirst (Some (Ok l)) n before after = before ≡ record { number = n; said = Some (line_data l) } ∷ after
+IsFirst (Some (Err NotUnderstood)) n before after = before ≡ record { number = n; said = None } ∷ after
+IsFirst (Some (Err Memory)) n before after = (d : LineData) × (before ≡ record { number = n; said = Some d } ∷ after) × IsTrue (takes_memory d)
 
 -- how many lines come when a reader is asked, with one that was handed back
 abbrev pub lines_to_come : Reader → ℕ
 lines_to_come r = length (lines_left r.lines) + option_map_or (λ line. 1) r.handed_back 0
 
--- where a line came, fewer are to come than there were; else no more
-abbrev pub Shrinks : {A E : Type 0} → Result (Option A) E → ℕ → ℕ → Type 0
-Shrinks (Ok (Some x)) before after = after < before
-Shrinks (Ok None) before after = after ≤ before
-Shrinks (Err e) before after = after ≤ before
+-- a reader that is asked gives the first statement that comes, keeps none back, and has no more lines to come than before
+abbrev pub GivesFirst : Reader → Option (Result Line LineError) → Reader → Type 0
+GivesFirst old said new = IsFirst said new.number (to_come old) (unread new) × (new.handed_back ≡ None) × (lines_to_come new ≤ lines_to_come old)

@@ -1,12 +1,14 @@
 //! Follows a script: gathers the setting, makes the job, the network and the routes, and carries out the other lines.
-ghost use Rattle.std.specs.Prelude.{◌≡◌, OnOk};
-ghost use Rattle.std.specs.Io.KnownBytes.{Appends};
+ghost use Rattle.std.specs.Prelude.{◌≡◌};
 ghost use Rattle.model.specs.Data.{job_of, net_of};
 ghost use Rattle.session.specs.Pairs.{pairs_of};
+ghost use Rattle.session.specs.Printing.{Adds};
 ghost use Rattle.session.specs.Sessions.{Gathers, gathering, over_routes, over_network, over_setting, over_gathering, printed};
 ghost use Rattle.session.specs.Settings.{setting_of, no_setting};
+ghost use Rattle.session.specs.Makings.{on};
 ghost use Rattle.session.specs.Statements.{to_come};
 
+use crate::made::Made;
 use crate::print::{print_made, print_not_understood, print_refusal};
 use crate::reader::Reader;
 use crate::session::Session;
@@ -26,8 +28,9 @@ fn gather(alloc: Global, reader: &mut Reader<'_>) -> Result<Setting, Stop>
     ensures { Gathers result reader.new.number (to_come reader.new) (gathering no_setting (to_come reader.old)) }
 {
     let mut setting = Setting::new(alloc);
-    while let Some(line) = reader.next(alloc)? {
-        if let Some(other) = setting.take(alloc, line)? {
+    // Not a `for`, which would have the reader on loan when a line is handed back to it.
+    while let Some(line) = reader.next() {
+        if let Some(other) = setting.take(alloc, line?)? {
             reader.hand_back(other);
             break;
         }
@@ -39,16 +42,11 @@ impl<W: Write> Session<'_, '_, W> {
     ghost use Rattle.session.specs.Following.{Follows};
 
     /// Says what was made, and carries out the lines that follow the setting.
-    fn follow_answers<R: Routes>(
-        &mut self,
-        job: &Job,
-        kind: RouteKind,
-        routes: &R,
-    ) -> Result<(), Stop>
-        ensures { Follows W.contents result self.old self.new (over_routes (job_of job.now) (net_of (R.Routes.over routes.now)) kind (R.Routes.route routes.now) (to_come self.old.reader)) }
+    fn follow_answers<R: Routes>(&mut self, made: &Made<'_, R>) -> Result<(), Stop>
+        ensures { Follows W.contents result self.old self.new (on made.now (λ J N ρ. over_routes J N made.now.kind ρ) (to_come self.old.reader)) }
     {
-        print_made(self.out, job, routes.network(), kind)?;
-        self.answers(job, routes)
+        print_made(self.out, made)?;
+        self.answers(made)
     }
 
     /// Makes the routes that the script asks for, and goes on over them.
@@ -64,11 +62,11 @@ impl<W: Write> Session<'_, '_, W> {
         match kind {
             RouteKind::Hops => {
                 let routes = routes_by_hops(self.alloc, network)?;
-                self.follow_answers(job, kind, &routes)
+                self.follow_answers(&Made::new(job, &routes, kind))
             }
             RouteKind::Slowness => {
                 let routes = routes_by_slowness(self.alloc, network)?;
-                self.follow_answers(job, kind, &routes)
+                self.follow_answers(&Made::new(job, &routes, kind))
             }
             RouteKind::Written => {
                 let rows = table_of(self.alloc, network.station_count(), written)?;
@@ -76,7 +74,7 @@ impl<W: Write> Session<'_, '_, W> {
                     Maker::Routes,
                     refusal,
                 ))?;
-                self.follow_answers(job, kind, &routes)
+                self.follow_answers(&Made::new(job, &routes, kind))
             }
         }
     }
@@ -113,7 +111,7 @@ impl<W: Write> Session<'_, '_, W> {
 /// Follows the script `text` from its first line to its end, or to a line that is not understood, and writes to `out`
 /// what it finds, a line for each thing done.
 pub fn follow_script<W: Write>(alloc: Global, text: &[u8], out: &mut W) -> io::Result<()>
-    ensures { OnOk result (Appends (W.contents out.old) (W.contents out.new) (printed text.now)) }
+    ensures { Adds W.contents result out.old out.new (printed text.now) }
 {
     let mut session = Session::new(alloc, text, out);
     let followed = session.follow_lines();

@@ -3,6 +3,7 @@
 
 mod answer;
 mod follow;
+mod made;
 mod print;
 mod reader;
 mod session;

@@ -1,14 +1,15 @@
 //! The lines that the program prints.
-ghost use Rattle.std.specs.Prelude.{◌≡◌, OnOk};
-ghost use Rattle.std.specs.Io.KnownBytes.{Appends};
-ghost use Rattle.model.specs.Data.{job_of, net_of};
-ghost use Rattle.model.specs.Plans.{plan_of};
-ghost use Rattle.session.specs.Printing.{maker_name, refusal_line, not_understood_line, origin_text, made_line, verdict_line};
+ghost use Rattle.std.specs.Prelude.{◌≡◌};
+ghost use Rattle.routes.specs.RoutedPlans as Routed;
+ghost use Rattle.session.specs.Makings.{on};
+ghost use Rattle.session.specs.Printing.{Adds, maker_name, refusal_line, not_understood_line, origin_text, made_line, verdict_line};
 
+use crate::made::Made;
 use crate::stop::Maker;
 use marker::Verdict;
+use model::Refusal;
 use model::plan::measures::{placed_count, plan_length};
-use model::{Job, Network, Plan, Refusal};
+use routes::{RoutedPlan, Routes};
 use script::RouteKind;
 use std::io;
 use std::io::Write;
@@ -16,7 +17,7 @@ use std::io::Write;
 /// What could not be made, and why: the number of the refusal and its detail.
 #[tactic(auto, unfolding(crate::specs::Printing::refusal_line))]
 pub fn print_refusal<W: Write>(out: &mut W, maker: Maker, refusal: Refusal) -> io::Result<()>
-    ensures { OnOk result (Appends (W.contents out.old) (W.contents out.new) (refusal_line (maker_name maker) refusal)) }
+    ensures { Adds W.contents result out.old out.new (refusal_line (maker_name maker) refusal) }
 {
     writeln!(out, "{maker} refused {refusal}")
 }
@@ -24,7 +25,7 @@ pub fn print_refusal<W: Write>(out: &mut W, maker: Maker, refusal: Refusal) -> i
 /// Which line is not understood.
 #[tactic(auto, unfolding(crate::specs::Printing::not_understood_line))]
 pub fn print_not_understood<W: Write>(out: &mut W, number: usize) -> io::Result<()>
-    ensures { OnOk result (Appends (W.contents out.old) (W.contents out.new) (not_understood_line number)) }
+    ensures { Adds W.contents result out.old out.new (not_understood_line number) }
 {
     writeln!(out, "line {number} not understood")
 }
@@ -42,44 +43,38 @@ fn origin(kind: RouteKind) -> &'static str
 
 /// What was made.
 #[tactic(auto, unfolding(crate::specs::Printing::made_line))]
-pub fn print_made<W: Write>(
-    out: &mut W,
-    job: &Job,
-    network: &Network,
-    kind: RouteKind,
-) -> io::Result<()>
-    ensures { OnOk result (Appends (W.contents out.old) (W.contents out.new) (made_line (job_of job.now) (net_of network.now) kind)) }
+pub fn print_made<R: Routes, W: Write>(out: &mut W, made: &Made<'_, R>) -> io::Result<()>
+    ensures { Adds W.contents result out.old out.new (on made.now (λ J N ρ. made_line J N made.now.kind)) }
 {
+    let network = made.routes.network();
     writeln!(
         out,
         "job of {} tasks and {} edges, network of {} stations and {} links, routes {}",
-        job.task_count(),
-        job.edge_count(),
+        made.job.task_count(),
+        made.job.edge_count(),
         network.station_count(),
         network.link_count(),
-        origin(kind)
+        origin(made.kind)
     )
 }
 
 /// What the marker says of a plan.
 #[tactic(auto, unfolding(crate::specs::Printing::verdict_line))]
-pub fn print_verdict<W: Write>(
+pub fn print_verdict<R: Routes, W: Write>(
     out: &mut W,
-    job: &Job,
-    network: &Network,
-    plan: &Plan,
+    marked: &RoutedPlan<'_, R>,
     verdict: Verdict,
 ) -> io::Result<()>
-    ensures { OnOk result (Appends (W.contents out.old) (W.contents out.new) (verdict_line (job_of job.now) (net_of network.now) (plan_of plan.now) verdict)) }
+    ensures { Adds W.contents result out.old out.new (Routed.on marked.now (λ J N ρ P. verdict_line J N P verdict)) }
 {
     match verdict {
         Verdict::Lawful => {
             writeln!(
                 out,
                 "lawful placed {} of {} length {}",
-                placed_count(plan),
-                job.task_count(),
-                plan_length(job, network, plan)
+                placed_count(marked.plan),
+                marked.job.task_count(),
+                plan_length(marked.job, marked.routes.network(), marked.plan)
             )
         }
         Verdict::Broken(rule, first, second) => { writeln!(out, "broken {rule} {first} {second}") }

@@ -24,7 +24,7 @@ impl<'t, 'o, W> Session<'t, 'o, W> {
     {
         Session {
             alloc,
-            reader: Reader::new(text),
+            reader: Reader::new(alloc, text),
             out,
         }
     }

@@ -28,12 +28,11 @@ pub struct Setting {
 fn link_of(speed: u32, stations: &[u32]) -> Link
     ensures { result ≡ link_from speed stations.now }
 {
-    let mut set = StationSet::new();
-    for station in stations {
-        set.insert(*station as usize);
-    }
     Link {
-        stations: set,
+        stations: stations.iter().fold(
+            StationSet::new(),
+            |set, station| set.with(*station as usize),
+        ),
         speed: Speed { rate: speed },
     }
 }

@@ -19,11 +19,11 @@ impl fmt::Display for Maker {
     ghost output = { λ maker. Some (maker_name maker) };
 
     fn fmt<W: fmt::Write>(&self, f: &mut fmt::Formatter<W>) -> fmt::Result {
-        match self {
-            Maker::Job => write!(f, "job"),
-            Maker::Network => write!(f, "network"),
-            Maker::Routes => write!(f, "routes"),
-        }
+        f.write_str(match self {
+            Maker::Job => "job",
+            Maker::Network => "network",
+            Maker::Routes => "routes",
+        })
     }
 }
 
@@ -38,6 +38,7 @@ pub enum Stop {
     Failed(io::Error),
 }
 
+// `From` is not derived: a derived one says nothing of the error that it makes.
 impl From<LineError> for Stop {
     ghost use Rattle.session.specs.Stops.{StopsFor};
 

@@ -1,11 +1,12 @@
 -- Two lists in which every test counts the same have the same elements.
-use Rattle.std.proofs.Common.{◌≡◌, Bool, true, cond, ◌&&◌, List, [], ◌∷◌, length, get_or, count_by, Contains, ◌==◌, nat_lt, sym, refl, ap, ◌∙◌, arith}
+use Rattle.std.proofs.Common.{◌≡◌, Bool, true, cond, List, [], ◌∷◌, length, get_or, count_by, Contains, nat_lt, sym, refl, ap, ◌∙◌, arith}
 use Rattle.std.specs.List.{list_any}
 use Rattle.std.proofs.lemmas.Bool.{and_parts, eqb-true}
 use Rattle.std.proofs.lemmas.Bool.Decides.{nat_tests}
 use Rattle.std.proofs.lemmas.List.{get_or_default}
 use Rattle.std.proofs.lemmas.List.Folds.{Any-from_list_any, list_any_at}
 use Rattle.std.proofs.lemmas.List.Sums.{sum_by-cons}
+use Rattle.model.specs.Bookings.{is_same}
 use Rattle.model.specs.declared.booking.Booking.{Booking}
 
 list_any_count_by : {X : Type 0} (p : X → Bool) (xs : List X) → list_any p xs ≡ nat_lt 0 (count_by p xs)
@@ -21,18 +22,15 @@ module _ (xs ys : List Booking) (same : (p : Booking → Bool) → count_by p ys
 
 -- the fields of a booking tell it from every other
 
-abbrev is_same : Booking → Booking → Bool
-is_same a b = a.start == b.start && a.resource == b.resource && a.length == b.length
-
-same_booking : (a b : Booking) → is_same a b ≡ true → a ≡ b
+pub same_booking : (a b : Booking) → is_same a b ≡ true → a ≡ b
 same_booking a b e =
     let last = and_parts _ _ e in
     let first = and_parts _ _ last.0 in
-    ap (λ r. record a { resource = r }) (eqb-true _ _ first.1)
-    ∙ ap (λ s. record { resource = b.resource; start = s; length = a.length }) (eqb-true _ _ first.0)
+    ap (λ r. record a { resource = r }) (eqb-true _ _ first.0)
+    ∙ ap (λ s. record { resource = b.resource; start = s; length = a.length }) (eqb-true _ _ first.1)
     ∙ ap (λ n. record b { length = n }) (eqb-true _ _ last.1)
 
-booking_same : (b : Booking) → is_same b b ≡ true
+pub booking_same : (b : Booking) → is_same b b ≡ true
 booking_same b = grind (arith, nat_tests)
 
 pub contains_same : (xs ys : List Booking) → ((p : Booking → Bool) → count_by p ys ≡ count_by p xs) → (b : Booking) → Contains xs b → Contains ys b

@@ -25,10 +25,10 @@ all_part P nothing all = all
 all_part P (kept {x} {xs} {ys} part) all = All-cons P x xs (All-head P x ys all) (all_part P part (All-tail P x ys all))
 all_part P (left_out {y} {xs} {ys} part) all = all_part P part (All-tail P y ys all)
 
-all_pairs_head : {X : Type 0} (R : X → X → Type 0) (x : X) (xs : List X) → AllPairs R (x ∷ xs) → All (R x) xs
+pub all_pairs_head : {X : Type 0} (R : X → X → Type 0) (x : X) (xs : List X) → AllPairs R (x ∷ xs) → All (R x) xs
 all_pairs_head R x xs each = λ k d within. each 0 (suc k) d (omega arith) (omega arith)
 
-all_pairs_tail : {X : Type 0} (R : X → X → Type 0) (x : X) (xs : List X) → AllPairs R (x ∷ xs) → AllPairs R xs
+pub all_pairs_tail : {X : Type 0} (R : X → X → Type 0) (x : X) (xs : List X) → AllPairs R (x ∷ xs) → AllPairs R xs
 all_pairs_tail R x xs each = λ i j d before within. each (suc i) (suc j) d (omega arith) (omega arith)
 
 pub all_pairs_part : {X : Type 0} (R : X → X → Type 0) {xs ys : List X} → IsPart xs ys → AllPairs R ys → AllPairs R xs

@@ -4,6 +4,7 @@ ghost use Rattle.timetable.specs.declared.roll.TheConstants.{MOST_BOOKINGS};
 ghost use Rattle.model.specs.declared.booking.Booking.{Booking};
 
 use crate::by_start::ByStart;
+use model::tick::LATEST_END;
 use model::{Booking, Tick};
 
 mod answer;
@@ -12,7 +13,7 @@ pub mod error;
 mod make;
 
 /// The tick by which every booking of a roll ends.
-pub const HORIZON: Tick = 2_000_000_000;
+pub const HORIZON: Tick = LATEST_END;
 
 /// How many bookings a roll can hold at most.
 pub const MOST_BOOKINGS: usize = 4096;

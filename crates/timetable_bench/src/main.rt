@@ -8,9 +8,11 @@ use model::{Booking, Tick};
 use std::alloc::Global;
 use std::env;
 use std::time::Instant;
+use timetable::roll::MOST_BOOKINGS;
 use timetable::{Askable, Roll, Writable};
 
-const BOOKINGS: Tick = 4096;
+/// As many bookings as a roll can hold.
+const BOOKINGS: Tick = MOST_BOOKINGS as Tick;
 
 const QUESTIONS: Tick = 10_000;
 
@@ -54,7 +56,7 @@ impl Load {
 
     /// A timetable with these bookings.
     fn booked(&self, alloc: Global) -> anyhow::Result<Roll> {
-        let mut roll = Roll::new(alloc, BOOKINGS as usize)?;
+        let mut roll = Roll::new(alloc, MOST_BOOKINGS)?;
         for i in 0..BOOKINGS {
             let place = i.wrapping_mul(self.step) % BOOKINGS;
             let booking = Booking {

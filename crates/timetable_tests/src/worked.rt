@@ -7,10 +7,11 @@ use std::test::Fail;
 use timetable::ask::is_free;
 use timetable::{Askable, Roll, RollError, Writable};
 
-/// The number and the detail of a refusal; 0 and 0 where there is none.
-fn outcome<T: Drop>(res: Result<T, Refusal>) -> (u32, usize) {
-    res.err()
-        .map_or((0, 0), |refusal| (refusal.number(), refusal.detail()))
+/// The number and the detail of the refusal, if there is one.
+fn refused<T: Drop>(outcome: Result<T, Refusal>) -> Option<(u32, usize)> {
+    outcome
+        .err()
+        .map(|refusal| (refusal.number(), refusal.detail()))
 }
 
 fn span(resource: usize, start: u32, length: u32) -> Booking {
@@ -69,8 +70,8 @@ fn any_numbers(rt: HostRuntime) -> Result<(), Fail> {
     assert_eq!(rt; table.earliest(0, last, last), None);
     assert_eq!(rt; table.booking(usize::MAX), None);
     assert!(rt; table.take_back().is_ok());
-    assert_eq!(rt; outcome(table.book(span(200, last, 0))), (18, 200));
-    assert_eq!(rt; outcome(table.book(span(0, last, last))), (18, 0));
+    assert_eq!(rt; refused(table.book(span(200, last, 0))), Some((18, 200)));
+    assert_eq!(rt; refused(table.book(span(0, last, last))), Some((18, 0)));
     assert_eq!(rt; table.count(), 2);
     Ok(())
 }
@@ -87,15 +88,15 @@ fn in_the_order_made(rt: HostRuntime) -> Result<(), Fail> {
 #[test]
 fn refusals(rt: HostRuntime) -> Result<(), Fail> {
     let mut table = Roll::new(rt.alloc(), 2)?;
-    assert_eq!(rt; outcome(table.take_back()), (15, 0));
-    assert_eq!(rt; outcome(table.book(span(5, 10, 4))), (0, 0));
-    assert_eq!(rt; outcome(table.book(span(5, 13, 1))), (18, 5));
-    assert_eq!(rt; outcome(table.book(span(5, 9, 2))), (18, 5));
-    assert_eq!(rt; outcome(table.book(span(5, 14, 0))), (18, 5));
+    assert_eq!(rt; refused(table.take_back()), Some((15, 0)));
+    assert_eq!(rt; refused(table.book(span(5, 10, 4))), None);
+    assert_eq!(rt; refused(table.book(span(5, 13, 1))), Some((18, 5)));
+    assert_eq!(rt; refused(table.book(span(5, 9, 2))), Some((18, 5)));
+    assert_eq!(rt; refused(table.book(span(5, 14, 0))), Some((18, 5)));
     assert_eq!(rt; table.count(), 1);
     assert!(rt; is_free(&table, span(5, 14, 1)) && !is_free(&table, span(5, 13, 1)));
-    assert_eq!(rt; outcome(table.book(span(5, 14, 1))), (0, 0));
-    assert_eq!(rt; outcome(table.book(span(5, 10, 4))), (17, 1));
+    assert_eq!(rt; refused(table.book(span(5, 14, 1))), None);
+    assert_eq!(rt; refused(table.book(span(5, 10, 4))), Some((17, 1)));
     assert_eq!(rt; table.count(), 2);
     Ok(())
 }
@@ -119,12 +120,12 @@ fn sizes(rt: HostRuntime) -> Result<(), Fail> {
     );
     let mut none = Roll::new(rt.alloc(), 0)?;
     assert_eq!(rt; none.most(), 0);
-    assert_eq!(rt; outcome(none.book(span(0, 0, 1))), (17, 1));
+    assert_eq!(rt; refused(none.book(span(0, 0, 1))), Some((17, 1)));
     let mut most = Roll::new(rt.alloc(), 4096)?;
     for start in (0..4096).rev() {
-        assert_eq!(rt; outcome(most.book(span(3, start, 1))), (0, 0));
+        assert_eq!(rt; refused(most.book(span(3, start, 1))), None);
     }
-    assert_eq!(rt; outcome(most.book(span(4, 0, 1))), (17, 1));
+    assert_eq!(rt; refused(most.book(span(4, 0, 1))), Some((17, 1)));
     assert_eq!(rt; most.earliest(3, 0, 1), Some(4096));
     Ok(())
 }
@@ -138,11 +139,11 @@ fn two_layers(rt: HostRuntime) -> Result<(), Fail> {
     assert_eq!(rt; try_earliest(&mut table, 0, 0, 5), Ok(span(0, 12, 5)));
     assert_eq!(rt; room_left(&table), 1);
     assert_eq!(rt;
-        outcome(book_earliest(&mut table, 0, 0, 2_000_000_000)),
-        (18, 0)
+        refused(book_earliest(&mut table, 0, 0, 2_000_000_000)),
+        Some((18, 0))
     );
     assert_eq!(rt; book_earliest(&mut table, 16, 0, 2_000_000_000), Ok(0));
-    assert_eq!(rt; outcome(book_earliest(&mut table, 1, 0, 1)), (17, 1));
+    assert_eq!(rt; refused(book_earliest(&mut table, 1, 0, 1)), Some((17, 1)));
     assert_eq!(rt; room_left(&table), 0);
     Ok(())
 }

@@ -4,28 +4,25 @@ ghost use Rattle.marker.specs.Markings.{on};
 ghost use Rattle.marker.specs.Verdicts.{limit_test};
 
 use crate::marking::Marking;
-use model::plan::measures::finish;
+use model::tick::LATEST_END;
 use routes::Routes;
 
 /// No task and no transfer finishes later.
-const LIMIT: u64 = 2_000_000_000;
+const LIMIT: u64 = LATEST_END as u64;
 
-impl<'a, R: Routes> Marking<'a, R> {
+impl<R: Routes> Marking<'_, R> {
     /// Whether a task is done after the limit.
     fn task_late(&self, t: usize) -> bool
         ensures { result ≡ on self.now limit_test 0 t }
     {
-        let network = self.routes.network();
-        self.plan
-            .task(t)
-            .is_some_and(|p| finish(self.job, network, t, p) > LIMIT)
+        self.booking(t).is_some_and(|task| task.end() > LIMIT)
     }
 
     /// Whether a transfer is done after the limit on some link.
     fn transfer_late(&self, i: usize) -> bool
         ensures { result ≡ on self.now limit_test 1 i }
     {
-        self.legs(i).iter().flatten().any(|b| b.end() > LIMIT)
+        self.any_leg(i, |b| b.end() > LIMIT)
     }
 
     /// Rule D: 0 and a task, or 1 and an edge.

@@ -1,28 +1,25 @@
 //! Rules E, F and G: a transfer goes after the task it comes from, link after link, and before the task it goes to.
 ghost use Rattle.std.specs.Prelude.{◌≡◌, ◌&&◌, ◌==◌, nat_lt};
 ghost use Rattle.model.specs.Bookings.{end};
-ghost use Rattle.model.specs.Data.{job_of, net_of};
-ghost use Rattle.model.specs.Plans.{task_row, plan_of, finish};
+ghost use Rattle.model.specs.Plans.{task_row, finish};
 ghost use Rattle.routes.specs.Legs.{legs, last};
 ghost use Rattle.marker.specs.Markings.{on};
 ghost use Rattle.marker.specs.Verdicts.{some_is, hop_test, departure_test, causality_test, arrival_test};
 
 use crate::marking::Marking;
-use model::plan::measures::finish;
 use model::{Placement, Tick};
 use routes::Routes;
-use routes::legs::leg_count;
 
-impl<'a, R: Routes> Marking<'a, R> {
+impl<R: Routes> Marking<'_, R> {
     /// Whether the transfer starts before its origin is done.
     pub(crate) fn departure_test(&self, i: usize) -> bool
         ensures { result ≡ on self.now departure_test i }
     {
-        if let Some(e) = self.job.edge(i)
-            && let Some(p) = self.plan.task(e.from)
+        if let Some(e) = self.marked.job.edge(i)
+            && let Some(origin) = self.booking(e.from)
             && let Some(b) = self.leg(i, 0)
         {
-            u64::from(b.start) < finish(self.job, self.routes.network(), e.from, p)
+            u64::from(b.start) < origin.end()
         } else {
             false
         }
@@ -50,18 +47,19 @@ impl<'a, R: Routes> Marking<'a, R> {
     fn before_transfer(&self, i: usize, start: Tick) -> bool
         ensures { result ≡ some_is (last (on self.now legs i)) (λ b. nat_lt start (end b)) }
     {
-        let last = leg_count(self.routes, self.job, self.plan, i).saturating_sub(1);
-        self.leg(i, last)
+        self.legs(i)
+            .iter()
+            .flatten()
+            .last()
             .is_some_and(|b| u64::from(start) < b.end())
     }
 
     /// Whether `q` starts before a task on its own machine is done.
     fn before_task(&self, from: usize, q: Placement) -> bool
-        ensures { result ≡ some_is (task_row (plan_of self.now.plan.now) from) (λ p. (p.station == q.station) && nat_lt q.start (finish (job_of self.now.job.now) (net_of (R.Routes.over self.now.routes.now)) from p)) }
+        ensures { result ≡ on self.now (λ J N ρ P. some_is (task_row P from) (λ p. (p.station == q.station) && nat_lt q.start (finish J N from p))) }
     {
-        let network = self.routes.network();
-        self.plan.task(from).is_some_and(|p| {
-            p.station == q.station && u64::from(q.start) < finish(self.job, network, from, p)
+        self.booking(from).is_some_and(|origin| {
+            origin.resource == q.station && u64::from(q.start) < origin.end()
         })
     }
 
@@ -69,8 +67,8 @@ impl<'a, R: Routes> Marking<'a, R> {
     pub(crate) fn arrival_test(&self, i: usize) -> bool
         ensures { result ≡ on self.now arrival_test i }
     {
-        if let Some(e) = self.job.edge(i)
-            && let Some(q) = self.plan.task(e.to)
+        if let Some(e) = self.marked.job.edge(i)
+            && let Some(q) = self.marked.plan.task(e.to)
         {
             self.before_transfer(i, q.start) || self.before_task(e.from, q)
         } else {

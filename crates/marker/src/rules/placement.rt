@@ -5,15 +5,14 @@ ghost use Rattle.marker.specs.Verdicts.{predecessors_test, routed_test};
 
 use crate::marking::Marking;
 use routes::Routes;
-use routes::legs::way_length;
 
-impl<'a, R: Routes> Marking<'a, R> {
+impl<R: Routes> Marking<'_, R> {
     /// Whether the edge's goal is placed and its origin is not.
     pub(crate) fn predecessors_test(&self, i: usize) -> bool
         ensures { result ≡ on self.now predecessors_test i }
     {
-        self.job.edge(i).is_some_and(|e| {
-            self.plan.task(e.to).is_some() && self.plan.task(e.from).is_none()
+        self.marked.job.edge(i).is_some_and(|e| {
+            self.marked.plan.task(e.to).is_some() && self.marked.plan.task(e.from).is_none()
         })
     }
 
@@ -21,8 +20,10 @@ impl<'a, R: Routes> Marking<'a, R> {
     pub(crate) fn routed_test(&self, i: usize) -> bool
         ensures { result ≡ on self.now routed_test i }
     {
-        self.job.edge(i).is_some_and(|e| {
-            way_length(self.routes, self.plan, e) != Some(self.plan.start_count(i))
-        })
+        // Not `is_some_and`: the proof learns nothing of what a closure that calls `way_length` answers.
+        let Some(edge) = self.marked.job.edge(i) else {
+            return false;
+        };
+        self.marked.way_length(edge) != Some(self.marked.plan.start_count(i))
     }
 }

@@ -6,13 +6,13 @@ ghost use Rattle.marker.specs.Verdicts.{rows_test};
 use crate::marking::Marking;
 use routes::Routes;
 
-impl<'a, R: Routes> Marking<'a, R> {
+impl<R: Routes> Marking<'_, R> {
     /// Whether a task's row is of no task of the job, or on no machine.
     fn row_stray(&self, t: usize) -> bool
         ensures { result ≡ on self.now rows_test 0 t }
     {
-        self.plan.task(t).is_some_and(|p| {
-            t >= self.job.task_count() || !self.routes.network().is_machine(p.station)
+        self.marked.plan.task(t).is_some_and(|p| {
+            t >= self.marked.job.task_count() || !self.marked.routes.network().is_machine(p.station)
         })
     }
 
@@ -20,7 +20,7 @@ impl<'a, R: Routes> Marking<'a, R> {
     fn transfer_stray(&self, i: usize) -> bool
         ensures { result ≡ on self.now rows_test 1 i }
     {
-        self.plan.start_count(i) != 0 && i >= self.job.edge_count()
+        self.marked.plan.start_count(i) != 0 && i >= self.marked.job.edge_count()
     }
 
     /// Rule A: 0 and a task, or 1 and an edge.

@@ -6,17 +6,16 @@ ghost use Rattle.model.specs.Refusals.{refusal_of};
 
 use super::{Edge, Job};
 use crate::plan::{TASK_ROWS, TRANSFER_ROWS};
-use crate::refusal::{Refusal, check_each};
+use crate::refusal::{Refusal, check, check_each, check_length};
 
 /// Refuses an amount that is outside its limits, 1 to 1,000,000; `place` is where its list has it.
 fn check_amount(place: usize, amount: u32) -> Result<(), Refusal>
     ensures { refusal_of result ≡ task_refusal place amount }
 {
-    if (1..=1_000_000).contains(&amount) {
-        Ok(())
-    } else {
-        Err(Refusal::ValueLimits(place))
-    }
+    check(
+        (1..=1_000_000).contains(&amount),
+        Refusal::ValueLimits(place),
+    )
 }
 
 /// Whether one of the first `count` edges joins the same pair of tasks as `edge`.
@@ -36,11 +35,7 @@ fn check_edge(tasks: usize, edges: &[Edge], i: usize, edge: &Edge) -> Result<(),
 {
     check_amount(i, edge.volume)?;
     let rises = edge.from < edge.to && edge.to < tasks;
-    if rises && !joins_pair(edge, edges, i) {
-        Ok(())
-    } else {
-        Err(Refusal::BadEdge(i))
-    }
+    check(rises && !joins_pair(edge, edges, i), Refusal::BadEdge(i))
 }
 
 /// Refuses lists that make no job.
@@ -48,12 +43,8 @@ fn check_job(works: &[u32], edges: &[Edge]) -> Result<(), Refusal>
     ensures { refusal_of result ≡ job_refusal works.now edges.now }
 {
     let tasks = works.len();
-    if !(1..=TASK_ROWS).contains(&tasks) {
-        return Err(Refusal::ListLength(tasks));
-    }
-    if edges.len() > TRANSFER_ROWS {
-        return Err(Refusal::ListLength(edges.len()));
-    }
+    check_length(tasks, 1, TASK_ROWS)?;
+    check_length(edges.len(), 0, TRANSFER_ROWS)?;
     check_each(works, |t, work| check_amount(t, *work))?;
     check_each(edges, |i, edge| check_edge(tasks, edges, i, edge))
 }

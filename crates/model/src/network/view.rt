@@ -40,6 +40,13 @@ impl Network {
         self.stations.get(s).copied()
     }
 
+    /// The links, by their numbers.
+    pub fn links(&self) -> &[Link]
+        ensures { result.now ≡ (net_of self.now).links }
+    {
+        &self.links
+    }
+
     /// The link of a number.
     pub fn link(&self, l: usize) -> Option<Link>
         ensures { result ≡ slice_get (net_of self.now).links l }

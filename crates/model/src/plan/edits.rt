@@ -6,17 +6,23 @@ ghost use Rattle.model.specs.Rows.{row_fits, row_answer, task_answer};
 use super::error::PlanError;
 use super::{Placement, Plan, TASK_ROWS, TRANSFER_ROWS, TransferRow};
 use crate::network::MOST_STATIONS;
+use crate::refusal::check;
+
+/// Refuses the number of a row in a table that has `rows` rows.
+fn check_row(row: usize, rows: usize) -> Result<(), PlanError>
+    ensures { result ≡ row_answer rows row }
+{
+    check(row < rows, PlanError::NoSuchRow)
+}
 
 impl Plan {
     /// A plan with no task placed, every transfer row empty, and no steps.
     pub fn new() -> Plan
         ensures { plan_of result ≡ blank_plan }
     {
-        let blank: Option<Placement> = None;
-        let empty = TransferRow::new();
         Plan {
-            tasks: [blank; TASK_ROWS],
-            transfers: [empty; TRANSFER_ROWS],
+            tasks: [None; TASK_ROWS],
+            transfers: [TransferRow::new(); TRANSFER_ROWS],
             steps: [0; TASK_ROWS],
             step_count: 0,
         }
@@ -28,12 +34,8 @@ impl Plan {
         ensures fits { is_ok result ≡ row_fits t row }
         ensures plan { plan_of self.new ≡ (if is_ok result then with_task (plan_of self.old) t (Some row) else plan_of self.old) }
     {
-        if t >= TASK_ROWS {
-            return Err(PlanError::NoSuchRow);
-        }
-        if row.station >= MOST_STATIONS {
-            return Err(PlanError::NoSuchStation);
-        }
+        check_row(t, TASK_ROWS)?;
+        check(row.station < MOST_STATIONS, PlanError::NoSuchStation)?;
         self.tasks[t] = Some(row);
         Ok(())
     }
@@ -44,9 +46,7 @@ impl Plan {
         ensures fits { is_ok result ≡ nat_lt t 128 }
         ensures plan { plan_of self.new ≡ (if is_ok result then with_task (plan_of self.old) t None else plan_of self.old) }
     {
-        if t >= TASK_ROWS {
-            return Err(PlanError::NoSuchRow);
-        }
+        check_row(t, TASK_ROWS)?;
         self.tasks[t] = None;
         Ok(())
     }
@@ -57,9 +57,7 @@ impl Plan {
         ensures fits { is_ok result ≡ nat_lt e 224 }
         ensures plan { plan_of self.new ≡ (if is_ok result then with_starts (plan_of self.old) e (starts_of row) else plan_of self.old) }
     {
-        if e >= TRANSFER_ROWS {
-            return Err(PlanError::NoSuchRow);
-        }
+        check_row(e, TRANSFER_ROWS)?;
         self.transfers[e] = row;
         Ok(())
     }
@@ -70,12 +68,8 @@ impl Plan {
         ensures fits { is_ok result ≡ step_fits (plan_of self.old) t }
         ensures plan { plan_of self.new ≡ (if is_ok result then with_step (plan_of self.old) t else plan_of self.old) }
     {
-        if t >= TASK_ROWS {
-            return Err(PlanError::NoSuchRow);
-        }
-        if self.step_count >= TASK_ROWS {
-            return Err(PlanError::Full);
-        }
+        check_row(t, TASK_ROWS)?;
+        check(self.step_count < TASK_ROWS, PlanError::Full)?;
         self.steps[self.step_count] = t;
         self.step_count += 1;
         Ok(())

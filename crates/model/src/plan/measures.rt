@@ -1,9 +1,10 @@
 //! How much of a job a plan does, and how long it takes.
 ghost use Rattle.std.specs.Prelude.{◌≡◌, ◌^◌, ◌<◌, ◌≤◌};
 ghost use Rattle.model.specs.Data.{job_of, net_of, task_length, transfer_length};
-ghost use Rattle.model.specs.Plans.{plan_of, finish, placed_count, plan_length};
+ghost use Rattle.model.specs.Plans.{plan_of, task_booking, finish, placed_count, plan_length};
 
 use super::{Placement, Plan};
+use crate::booking::Booking;
 use crate::job::Job;
 use crate::network::Network;
 use crate::speed::ticks;
@@ -23,12 +24,23 @@ pub fn transfer_length(network: &Network, volume: u32, link: usize) -> Tick
     ticks(volume, network.link_speed(link))
 }
 
+/// The booking of a task that is placed so.
+pub fn task_booking(job: &Job, network: &Network, t: usize, row: Placement) -> Booking
+    ensures { result ≡ task_booking (job_of job.now) (net_of network.now) t row }
+{
+    Booking {
+        resource: row.station,
+        start: row.start,
+        length: task_length(job, network, t, row.station),
+    }
+}
+
 /// When a task that is placed so is done.
 pub fn finish(job: &Job, network: &Network, t: usize, row: Placement) -> u64
     ensures value { result ≡ finish (job_of job.now) (net_of network.now) t row }
     ensures fits { result < 2 ^ 33 }
 {
-    u64::from(row.start) + u64::from(task_length(job, network, t, row.station))
+    task_booking(job, network, t, row).end()
 }
 
 /// How many tasks are placed.

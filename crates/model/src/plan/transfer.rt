@@ -1,10 +1,11 @@
 //! The row of one transfer.
-ghost use Rattle.std.specs.Prelude.{◌≡◌, [], ◌∷◌, ◌++◌, length, if◌then◌else◌, nat_lt, is_ok};
+ghost use Rattle.std.specs.Prelude.{◌≡◌, [], ◌∷◌, ◌++◌, length, take, if◌then◌else◌, nat_lt, is_ok};
 ghost use Rattle.std.specs.List.{slice_get};
 ghost use Rattle.model.specs.Plans.{starts_of, start_answer};
 
 use super::error::PlanError;
 use super::{MOST_HOPS, TransferRow};
+use crate::refusal::check;
 use crate::tick::Tick;
 
 impl TransferRow {
@@ -15,6 +16,19 @@ impl TransferRow {
         TransferRow {
             starts: [0; MOST_HOPS],
             count: 0,
+        }
+    }
+
+    /// A row with these starts, or with the first 15 of them.
+    pub fn of(starts: &[Tick]) -> TransferRow
+        ensures { starts_of result ≡ take 15 starts.now }
+    {
+        let count = starts.len().min(MOST_HOPS);
+        let mut places = [0; MOST_HOPS];
+        places[..count].copy_from_slice(&starts[..count]);
+        TransferRow {
+            starts: places,
+            count,
         }
     }
 
@@ -45,9 +59,7 @@ impl TransferRow {
         ensures fits { is_ok result ≡ nat_lt (length (starts_of self.old)) 15 }
         ensures row { starts_of self.new ≡ (if is_ok result then starts_of self.old ++ start ∷ [] else starts_of self.old) }
     {
-        if self.count >= MOST_HOPS {
-            return Err(PlanError::Full);
-        }
+        check(self.count < MOST_HOPS, PlanError::Full)?;
         self.starts[self.count] = start;
         self.count += 1;
         Ok(())

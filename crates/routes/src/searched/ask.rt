@@ -31,7 +31,7 @@ fn hop_among<L: Length>(settled: &[Settled<L>], t: usize, i: usize) -> Option<Ho
     if i >= a.hops {
         return None;
     }
-    // One step back for each hop that comes after the one asked for.
+    // One step back for each hop that comes after the one asked for; a counted loop, since a step reads the place of the next.
     for _back in i + 1..a.hops {
         a = settled[a.from];
     }

@@ -1,4 +1,4 @@
-//! Routes by the two kinds of length.
+//! Routes by the two kinds of length: a maker for each, since each states a theorem of its own in plain numbers.
 ghost use Rattle.std.specs.Prelude.{◌≡◌, IfOk};
 ghost use Rattle.model.specs.Data.{net_of};
 ghost use Rattle.routes.specs.BestKinds.{FewestHops, LeastSlow};

@@ -29,6 +29,7 @@ impl<L: Length> SearchedRoutes<L> {
         ensures ordered { IfOk result (λ r. InOrderFromEach L.before L.longer (net_of r.network) L.starting) }
     {
         let mut slots = slots(alloc)?;
+        // A loop of pushes: each search changes `slots`, which no proof of `map` and `try_collect` was found to follow.
         let mut settled = Vec::new(alloc);
         for s in 0..network.station_count() {
             settled.push(search_from(alloc, &network, s, &mut slots)?)?;

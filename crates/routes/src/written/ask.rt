@@ -5,7 +5,7 @@ ghost use Rattle.model.specs.Data.{net_of};
 ghost use Rattle.routes.specs.Tables.{rows_of, written_route};
 ghost use Rattle.routes.specs.Shown.Kept.{written_laws};
 
-use super::WrittenRoutes;
+use super::{WrittenRoutes, row_at};
 use crate::hop::Hop;
 use crate::interface::Routes;
 use model::Network;
@@ -19,7 +19,7 @@ impl WrittenRoutes {
         if from >= stations || to >= stations {
             return None;
         }
-        self.rows[stations * from + to].as_deref()
+        row_at(&self.network, &self.rows, from, to)?
     }
 }
 

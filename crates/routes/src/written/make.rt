@@ -6,11 +6,11 @@ ghost use Rattle.model.specs.Refusals.{refusal_of};
 ghost use Rattle.routes.specs.Tables.{rows_of, keeps_law, row_refusal, origin_refusal, written_refusal};
 ghost use Rattle.routes.specs.Lawful.{LawfulTable, FirstBroken};
 
-use super::WrittenRoutes;
+use super::{WrittenRoutes, row_at};
 use crate::hop::Hop;
 use crate::walk::is_route;
 use model::network::MOST_STATIONS;
-use model::{Network, Refusal};
+use model::{Network, Refusal, check};
 
 /// Whether `row` keeps the law of the pair: empty from a station to itself, else none or a route.
 fn keeps_law(network: &Network, from: usize, to: usize, row: Option<&[Hop]>) -> bool
@@ -33,12 +33,11 @@ fn check_row(
     requires { (from < 16) × (to < 16) }
     ensures { refusal_of result ≡ row_refusal (net_of network.now) (rows_of rows.now) from to }
 {
-    let row = rows.get(network.station_count() * from + to);
-    if row.is_some_and(|row| keeps_law(network, from, to, row.as_deref())) {
-        Ok(())
-    } else {
-        Err(Refusal::BadRoute(MOST_STATIONS * from + to))
-    }
+    let row = row_at(network, rows, from, to);
+    check(
+        row.is_some_and(|row| keeps_law(network, from, to, row)),
+        Refusal::BadRoute(MOST_STATIONS * from + to),
+    )
 }
 
 /// Refuses the first row from a station that is missing or breaks a law.
@@ -46,6 +45,7 @@ fn check_origin(network: &Network, rows: &[Option<Vec<Hop>>], from: usize) -> Re
     requires { from < 16 }
     ensures { refusal_of result ≡ origin_refusal (net_of network.now) (rows_of rows.now) from }
 {
+    // A `for` with `?`, since each row may be refused: what `try_for_each` answers was not proved.
     for to in 0..network.station_count() {
         check_row(network, rows, from, to)?;
     }
@@ -56,6 +56,7 @@ fn check_origin(network: &Network, rows: &[Option<Vec<Hop>>], from: usize) -> Re
 fn check_rows(network: &Network, rows: &[Option<Vec<Hop>>]) -> Result<(), Refusal>
     ensures { refusal_of result ≡ written_refusal (net_of network.now) (rows_of rows.now) }
 {
+    // A `for` with `?`, for the same reason.
     for from in 0..network.station_count() {
         check_origin(network, rows, from)?;
     }

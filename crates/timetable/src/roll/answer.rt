@@ -4,10 +4,11 @@ ghost use Rattle.timetable.specs.Rolls.{roll_table, roll_horizon, roll_count};
 
 use crate::ask::Askable;
 use crate::roll::{HORIZON, Roll};
+use model::network::{MOST_LINKS, MOST_STATIONS};
 use model::{Booking, Tick};
 
 /// The greatest number of a resource.
-const LAST_RESOURCE: usize = 47;
+const LAST_RESOURCE: usize = MOST_STATIONS + MOST_LINKS - 1;
 
 impl Askable for Roll {
     ghost meaning = { roll_table };

@@ -6,7 +6,7 @@ ghost use Rattle.timetable.specs.Rolls.{roll_table};
 use crate::ask::is_free;
 use crate::roll::Roll;
 use crate::write::Writable;
-use model::{Booking, Refusal};
+use model::{Booking, Refusal, check};
 
 impl Roll {
     /// Adds a booking as the newest, in the memory that is there.
@@ -21,12 +21,9 @@ impl Roll {
 
 impl Writable for Roll {
     fn book(&mut self, booking: Booking) -> Result<(), Refusal> {
-        if self.bookings.len() == self.bookings.capacity() {
-            return Err(Refusal::NoRoom(1));
-        }
-        if !is_free(self, booking) {
-            return Err(Refusal::NoStart(booking.resource));
-        }
+        let has_room = self.bookings.len() < self.bookings.capacity();
+        check(has_room, Refusal::NoRoom(1))?;
+        check(is_free(self, booking), Refusal::NoStart(booking.resource))?;
         self.keep(booking);
         Ok(())
     }

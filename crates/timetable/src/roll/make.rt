@@ -6,6 +6,7 @@ ghost use Rattle.timetable.specs.Tables.{empty_table};
 use crate::by_start::ByStart;
 use crate::roll::error::RollError;
 use crate::roll::{HORIZON, MOST_BOOKINGS, Roll};
+use model::check;
 use std::alloc::Global;
 
 impl Roll {
@@ -16,9 +17,7 @@ impl Roll {
         ensures too_many { (result ≡ Err RollError.TooMany) ↔ (MOST_BOOKINGS < most) }
         ensures none_needs_no_memory { most ≡ 0 → IsOk result }
     {
-        if most > MOST_BOOKINGS {
-            return Err(RollError::TooMany);
-        }
+        check(most <= MOST_BOOKINGS, RollError::TooMany)?;
         Ok(Roll {
             bookings: Vec::with_capacity(alloc, most)?,
             by_start: ByStart::new(alloc, most)?,

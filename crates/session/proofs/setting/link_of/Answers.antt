@@ -1,15 +1,12 @@
-use Rattle.std.proofs.Common.{◌+◌, drop, sym, ap, ◌∙◌}
-use Rattle.std.proofs.lemmas.List.{at_drop_more, at_drop_all}
-use Rattle.session.specs.Settings.{with_stations}
+-- The stations of a link are those of its list, added one after the other.
+use Rattle.std.proofs.Common.{Bor, ℕ, ap, ◌∙◌, rules}
+use Rattle.std.proofs.lemmas.Iterator.{YieldsList-from_slice}
+use Rattle.std.proofs.lemmas.Iterator.Consumers.{fold_from_yields_List}
+use Rattle.model.specs.Stations.{no_stations, with_station}
+use Rattle.session.proofs.Sets.{with_stations_fold}
 use Rattle.session.proofs.setting.link_of.Goals as goal
-
-pub loop-station-preserved : goal.loop-station-preserved
-loop-station-preserved c =
-    let ss = c.args.stations.now in
-    let i = c.loop-station.station-index in
-    ap (λ set. with_stations set (drop (i + 1) ss)) c.insert.ensures ∙ sym (at_drop_more (with_stations c.loop-station.set) ss i 0 c.loop-station-test.true) ∙ c.loop-station.invariant
 
 pub returns : goal.returns
 returns c =
-    ap (λ set. record { stations = set; speed = record { rate = c.args.speed } })
-    (sym (at_drop_all (with_stations c.loop-station.set) c.args.stations.now c.loop-station.station-index c.loop-station-test.false) ∙ c.loop-station.invariant)
+    let folded = fold_from_yields_List {v = λ (y : Bor ℕ). y.now} _ with_station no_stations c.fold.result (rw c.new.ensures at c.fold.ensures.ran) (YieldsList-from_slice c.args.stations.now (cc)) (λ set s next q k. search rules) in
+    ap (λ set. record { stations = set; speed = record { rate = c.args.speed } }) (folded ∙ with_stations_fold no_stations c.args.stations.now)

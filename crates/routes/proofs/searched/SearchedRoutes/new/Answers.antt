@@ -1,12 +1,12 @@
 -- The theorems of the search hold of these routes.
-use Rattle.std.proofs.Common.{◌++◌, ◌∷◌, [], ◌∙◌, map, sym, ap, vec_items}
+use Rattle.std.proofs.Common.{◌++◌, ◌∷◌, [], ◌∙◌, map, sym, ap, vec_items, zero-add}
 use Rattle.std.specs.List.{range_with_len}
 use Rattle.std.proofs.lemmas.List.{map-append}
+use Rattle.std.proofs.lemmas.List.FromFn.{map-range_with_len_more}
 use Rattle.model.specs.Data.{net_of}
 use Rattle.model.proofs.Networks.{of_network}
 use Rattle.routes.specs.Search.{search_order}
 use Rattle.routes.specs.Shown.Turns.{in_order}
-use Rattle.routes.proofs.Offered.{map_range_more}
 use Rattle.routes.proofs.Optimal.{best_routes, leads_inside}
 use Rattle.routes.proofs.searched.SearchedRoutes.new.Goals as goal
 
@@ -18,7 +18,7 @@ loop-s-preserved g c =
           ∙ map-append vec_items c.loop-s.settled.items (c.in_ok-search_from.field-0 ∷ [])
           ∙ ap (λ ws. ws ++ vec_items c.in_ok-search_from.field-0 ∷ []) c.loop-s.invariant.told
           ∙ ap (λ w. map f (range_with_len 0 c.loop-s.s) ++ w ∷ []) c.in_ok-search_from.ensures
-          ∙ sym (map_range_more f c.loop-s.s);
+          ∙ sym (map-range_with_len_more f 0 c.loop-s.s c.loop-s.s (zero-add c.loop-s.s));
       room = c.loop-s.invariant.room;
     }
 

@@ -1,9 +1,8 @@
-use Rattle.std.proofs.Common.{◌≡◌, false, List, is_some, Some, None, vec_items, Option, sym, refl, ap, ◌∙◌}
-use Rattle.std.specs.Prelude.{Result, Ok, Err, is_ok, IfOk, IfErr}
+use Rattle.std.proofs.Common.{◌≡◌, false, List, Some, None, vec_items, Option, sym, refl, ap, ◌∙◌}
+use Rattle.std.specs.Prelude.{Result, Ok, Err, is_ok, IfErr}
 use Rattle.std.specs.Result.{IsErrAnd}
 use Rattle.std.proofs.lemmas.Bool.{true≢false}
 use Rattle.model.specs.Data.{NetData, net_of}
-use Rattle.model.specs.Refusals.{refusal_of}
 use Rattle.model.specs.declared.refusal.Refusal.{Refusal}
 use Rattle.model.proofs.Firsts.{some≢none}
 use Rattle.routes.specs.Lawful.{FirstBroken}
@@ -13,34 +12,30 @@ use Rattle.routes.specs.declared.hop.Hop.{Hop}
 use Rattle.routes.proofs.written.WrittenRoutes.new.Goals as goal
 
 -- what `?` hands on is the refusal
-handed_on : {W : Type 0} (N : NetData) (rows : List (Option (List Hop))) (r : Result W Refusal) (e : Refusal) → written_refusal N rows ≡ Some e → IsErrAnd r (λ d. d ≡ e) → (refusal_of r ≡ written_refusal N rows) × (is_ok r ≡ false) × ((P : W → Type 0) → IfOk r P) × IfErr r (FirstBroken N rows)
+handed_on : {W : Type 0} (N : NetData) (rows : List (Option (List Hop))) (r : Result W Refusal) (e : Refusal) → written_refusal N rows ≡ Some e → IsErrAnd r (λ d. d ≡ e) → (is_ok r ≡ false) × IfErr r (FirstBroken N rows)
 handed_on N rows (Ok w) e is same = absurd same
-handed_on N rows (Err d) e is same =
-    let broken : written_refusal N rows ≡ Some d = is ∙ ap Some (sym same) in
-    (sym broken, refl, λ _. tt, table_broken N rows d broken)
+handed_on N rows (Err d) e is same = (refl, table_broken N rows d (is ∙ ap Some (sym same)))
 
-pub invariant_of-result : goal.invariant_of-result
-invariant_of-result c =
-    let N = net_of c.args.network in
-    record { checked = ap is_some (sym (ap (λ xs. written_refusal N (rows_of xs)) c.deref.ensures.value) ∙ sym c.in_ok-check_rows.ensures) }
-
-pub returns-in_err-check_rows : goal.returns-in_err-check_rows
-returns-in_err-check_rows c =
+pub returns-in_err-check_rows-clause-lawful : goal.returns-in_err-check_rows-clause-lawful
+returns-in_err-check_rows-clause-lawful c =
     let N = net_of c.args.network in
     let rows = rows_of (vec_items c.args.rows) in
     let e = c.in_err-check_rows.field-0.0 in
     let is : written_refusal N rows ≡ Some e = sym (ap (λ xs. written_refusal N (rows_of xs)) c.deref.ensures.value) ∙ sym c.in_err-check_rows.ensures in
-    let h = handed_on N rows c.from_residual.result e is c.from_residual.ensures.1 in
-    record {
-      answer = h.0;
-      kept = h.2 _;
-      lawful = (λ ok. absurd (true≢false (sym ok ∙ h.1)), λ l. absurd (some≢none (sym is ∙ lawful_table N rows l)));
-      broken = h.3;
-    }
+    let failed = (handed_on N rows c.from_residual.result e is c.from_residual.ensures.1).0 in
+    (λ ok. absurd (true≢false (sym ok ∙ failed)), λ l. absurd (some≢none (sym is ∙ lawful_table N rows l)))
 
-pub returns : goal.returns
-returns c =
+pub returns-in_err-check_rows-clause-broken : goal.returns-in_err-check_rows-clause-broken
+returns-in_err-check_rows-clause-broken c =
+    let N = net_of c.args.network in
+    let rows = rows_of (vec_items c.args.rows) in
+    let e = c.in_err-check_rows.field-0.0 in
+    let is : written_refusal N rows ≡ Some e = sym (ap (λ xs. written_refusal N (rows_of xs)) c.deref.ensures.value) ∙ sym c.in_err-check_rows.ensures in
+    (handed_on N rows c.from_residual.result e is c.from_residual.ensures.1).1
+
+pub returns-clause-lawful : goal.returns-clause-lawful
+returns-clause-lawful c =
     let N = net_of c.args.network in
     let rows = rows_of (vec_items c.args.rows) in
     let is : written_refusal N rows ≡ None = sym (ap (λ xs. written_refusal N (rows_of xs)) c.deref.ensures.value) ∙ sym c.in_ok-check_rows.ensures in
-    record { answer = sym is; kept = (refl, refl); lawful = (λ _. table_lawful N rows is, λ _. refl); broken = tt }
+    (λ _. table_lawful N rows is, λ _. refl)
