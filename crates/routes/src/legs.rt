@@ -34,12 +34,14 @@ impl<R: Routes> RoutedPlan<'_, R> {
     ghost use Rattle.std.specs.Option.{MatchOption, option_map};
     ghost use Rattle.std.specs.List.{slice_get};
     ghost use Rattle.routes.specs.Legs.{legs};
-    ghost use Rattle.routes.specs.RoutedPlans.{on, way_of};
+    ghost use Rattle.model.specs.Plans.{plan_of};
+    ghost use Rattle.routes.specs.RoutedPlans.{ends, on, way_of};
 
     /// The stations from which and to which the file of an edge goes: those of its two tasks,
     /// if both are placed and the stations differ.
     fn ends(&self, edge: Edge) -> Option<(usize, usize)>
-        ensures { MatchOption result (way_of self.now edge ≡ Some []) (λ ends. way_of self.now edge ≡ R.Routes.route self.now.routes.now ends.0 ends.1) }
+        ensures value { result ≡ ends (plan_of self.now.plan.now) edge }
+        ensures way { MatchOption result (way_of self.now edge ≡ Some []) (λ ends. way_of self.now edge ≡ R.Routes.route self.now.routes.now ends.0 ends.1) }
     {
         let from = self.plan.task(edge.from)?.station;
         let to = self.plan.task(edge.to)?.station;
