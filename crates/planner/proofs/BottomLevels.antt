@@ -32,7 +32,7 @@ level_at es (work ∷ works) t (suc k) within =
     rw from (level_at es works (t + 1) k (omega arith))
 
 module _ (f g : Edge → ℕ) (t : ℕ) where
-  outgoing_same : (es : List Edge) → ((i : ℕ) (e : Edge) → slice_get es i ≡ Some e → e.from ≡ t → f e ≡ g e) → map f (outgoing es t) ≡ map g (outgoing es t)
+  pub outgoing_same : (es : List Edge) → ((i : ℕ) (e : Edge) → slice_get es i ≡ Some e → e.from ≡ t → f e ≡ g e) → map f (outgoing es t) ≡ map g (outgoing es t)
   outgoing_same [] same = refl
   outgoing_same (x ∷ es) same = step (outgoing_same es (λ i e. same (suc i) e)) (x.from == t) refl
     where

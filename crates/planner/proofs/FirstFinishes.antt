@@ -15,12 +15,12 @@ use Rattle.planner.specs.Outcomes.{DrawState}
 use Rattle.planner.specs.Placing.{placed}
 
 -- a finish, and the state then
-abbrev End : Type 0
+abbrev pub End : Type 0
 End = ℕ × DrawState
 
 module _ (ends : ℕ → Option End) where
   -- the ends on the n machines from low on
-  abbrev ends_on : ℕ → ℕ → List End
+  abbrev pub ends_on : ℕ → ℕ → List End
   ends_on low n = filter_map ends (range_with_len low n)
 
   -- x is the end on some machine, none ends earlier, and no lower one so early
@@ -117,7 +117,7 @@ from_none (Ok y) e = cc e
 from_none (Err d) e = refl
 
 module _ (J : JobData) (N : NetData) (ρ : Ways) (S : DrawState) (t : ℕ) where
-  abbrev ends : ℕ → Option End
+  abbrev pub ends : ℕ → Option End
   ends m = result_ok (placed J N ρ S t m)
 
   ends_there : (m g : ℕ) (U : DrawState) → placed J N ρ S t m ≡ Ok (g, U) → ends m ≡ Some (g, U)

@@ -81,7 +81,7 @@ among_pass (u ∷ ts) (suc k) t at = or_right (u == t) (is_among ts t) (among_pa
 abbrev pub Once : List ℕ → Type 0
 Once ts = (j k t : ℕ) → slice_get ts j ≡ Some t → slice_get ts k ≡ Some t → j ≡ k
 
-not_true : (b : Bool) → not b ≡ true → b ≡ false
+pub not_true : (b : Bool) → not b ≡ true → b ≡ false
 not_true true e = cc e
 not_true false e = refl
 

@@ -19,14 +19,14 @@ use Rattle.planner.proofs.ListTests.{none≢some, all_read, all_pass, places_rea
 
 -- rows that are filled
 
-placed_read : (P : PlanData) (t : ℕ) → is_placed P t ≡ true → IsPlaced P t
+pub placed_read : (P : PlanData) (t : ℕ) → is_placed P t ≡ true → IsPlaced P t
 placed_read P t e = go (task_row P t) refl e
   where
     go : (o : Option Placement) → task_row P t ≡ o → is_some o ≡ true → IsPlaced P t
     go (Some p) at some = (p, at)
     go None at some = cc some
 
-placed_pass : (P : PlanData) (t : ℕ) → IsPlaced P t → is_placed P t ≡ true
+pub placed_pass : (P : PlanData) (t : ℕ) → IsPlaced P t → is_placed P t ≡ true
 placed_pass P t (p, at) = ap is_some at
 
 row_read : {X : Type 0} (rows : List (Option X)) (t : ℕ) (x : X) → get_or rows t None ≡ Some x → slice_get rows t ≡ Some (Some x)
@@ -39,15 +39,15 @@ starts_read [] i some = absurd (some refl)
 starts_read (r ∷ rows) zero some = refl
 starts_read (r ∷ rows) (suc i) some = starts_read rows i some
 
-empty_read : (ss : List ℕ) → is_empty ss ≡ true → ss ≡ []
+pub empty_read : (ss : List ℕ) → is_empty ss ≡ true → ss ≡ []
 empty_read [] e = refl
 empty_read (s ∷ ss) e = let zero_long = eqb-true (length (s ∷ ss)) 0 e in absurd (omega (arith, zero_long))
 
-filled_read : (ss : List ℕ) → ss ≢ [] → is_empty ss ≡ false
+pub filled_read : (ss : List ℕ) → ss ≢ [] → is_empty ss ≡ false
 filled_read [] some = absurd (some refl)
 filled_read (s ∷ ss) some = ⊎_elim (λ none. absurd (some (empty_read (s ∷ ss) none))) (λ filled. filled) (cases_Bool (is_empty (s ∷ ss)))
 
-filled_pass : (ss : List ℕ) → is_empty ss ≡ false → ss ≢ []
+pub filled_pass : (ss : List ℕ) → is_empty ss ≡ false → ss ≢ []
 filled_pass [] e some = cc e
 filled_pass (s ∷ ss) e some = cc some
 

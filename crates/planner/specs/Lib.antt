@@ -3,6 +3,8 @@ pub mod Outcomes
 pub mod Edges
 pub mod Bookings
 pub mod Order
+pub mod OrderParts
+pub mod EdgeChains
 pub mod Transfers
 pub mod Placing
 pub mod Drawing
@@ -13,3 +15,11 @@ pub mod Cases
 pub mod OrderInWords
 pub mod Laws
 pub mod FillLaws
+pub mod States
+pub mod UndoLaws
+pub mod Waits
+pub mod Shown
+pub mod Calls
+pub mod TrialCalls
+pub mod Booked
+pub mod Reached

@@ -54,18 +54,20 @@ steps_are_placed P =
 abbrev pub goals_are_steps : JobData → PlanData → Bool
 goals_are_steps J P = list_all (λ (i, e). is_empty (starts P i) || is_among P.steps e.to) (enumerate_from 0 J.edges)
 
+-- a sheet that counts so many steps belongs to the plan: these are the placed tasks, and the goals of filled transfers are among them
+abbrev pub belongs : JobData → ℕ → PlanData → Bool
+belongs J count P = count == length P.steps && steps_are_placed P && goals_are_steps J P
+
 abbrev pub are_same : List Booking → List Booking → Bool
 are_same [] [] = true
 are_same [] (b ∷ bs) = false
 are_same (a ∷ cs) [] = false
 are_same (a ∷ cs) (b ∷ bs) = is_same a b && are_same cs bs
 
--- the sheet counts the plan's steps, these are the placed tasks, rules A, B and C hold, and the timetable's list is the plan's bookings
+-- the sheet belongs to the plan, rules A, B and C hold, and the timetable's list is the plan's bookings
 unfoldable pub in_order : JobData → NetData → Ways → DrawState → Bool
 in_order J N ρ S =
-    S.count == length S.plan.steps
-    && steps_are_placed S.plan
-    && goals_are_steps J S.plan
+    belongs J S.count S.plan
     && keeps_rows J N S.plan
     && keeps_predecessors J S.plan
     && keeps_routes J ρ S.plan

@@ -1,20 +1,21 @@
 -- The statements of a line as an earlier landing defined them, and that they are those of today; so for how a text splits,
--- and for which lines can be written.
-use Rattle.std.proofs.Common.{All, ◌≡◌, ◌≢◌, ℕ, suc, ◌%◌, ◌≤◌, cond, ◌&&◌, ◌⊎◌, inl, inr, List, [], ◌∷◌, ◌++◌, length, drop, Some, None, codes, Option, ◌==◌, nat_le, slice_index, refl, arith}
+-- and for which lines can be written. The lines of drawing and of timetables came later: what was understood before says what it said.
+use Rattle.std.proofs.Common.{All, ◌≡◌, ◌≢◌, ℕ, suc, ◌%◌, ◌≤◌, cond, ◌&&◌, ◌⊎◌, inl, inr, List, [], ◌∷◌, ◌++◌, length, drop, Some, None, codes, Option, ◌==◌, nat_le, slice_index, refl, ap, sym, subst, ◌∙◌, Bool, true, false, if◌then◌else◌, arith}
 use Rattle.std.specs.List.{AllByRecursion}
 use Rattle.std.proofs.lemmas.List.Elements.{All-from_recursion, recursion_from_All}
-use Rattle.std.specs.Option.{option_map}
+use Rattle.std.specs.Option.{option_map, option_or}
 use Rattle.std.proofs.lemmas.Bool.Decides.{nat_tests}
+use Rattle.std.proofs.lemmas.Slice.Eq.{bytes_eq-Decides}
 use Rattle.script.proofs.Hops.{one_more}
 use Rattle.script.specs.Data.{LineData, task, edge, machine, switch, link, routes, route, bookings, answer, row, starts, mark}
 use Rattle.script.specs.Form.{form_named}
 use Rattle.script.specs.Number.{numbers_of}
-use Rattle.script.specs.Statement.{task_of, edge_of, machine_of, alone_of, link_of, hops_of, route_of, bookings_of, row_of, starts_of, form_line, kind_named, routes_of, numbered_of, line_of}
-use Rattle.script.specs.Words.{same_word}
+use Rattle.script.specs.Statement.{task_of, edge_of, machine_of, alone_of, link_of, hops_of, route_of, bookings_of, row_of, starts_of, form_line, kind_named, routes_of, hand_of, timetable_of, numbered_of, line_of}
+use Rattle.script.specs.Words.{named, same_word}
 use Rattle.script.specs.Lines.{Splits, unlines}
 use Rattle.script.specs.Written.{Fits32, Within, hop_numbers}
 use Rattle.script.specs.declared.form.Form.{Form}
-use Rattle.script.specs.declared.form.Form.TheVariants.{Task, Edge, Machine, Switch, Link, Route, Bookings, Answer, Row, Starts, Mark}
+use Rattle.script.specs.declared.form.Form.TheVariants.{Task, Edge, Machine, Switch, Link, Route, Bookings, Answer, Row, Starts, Mark, Place, Try, Keep, Strike, Back, Fill, Show}
 use Rattle.script.specs.declared.line.HopWords.{HopWords}
 use Rattle.script.specs.declared.line.RouteKind.{RouteKind}
 use Rattle.script.specs.declared.line.RouteKind.TheVariants.{Hops, Slowness, Written}
@@ -72,6 +73,8 @@ earlier_form_line Answer ns = earlier_alone_of answer ns
 earlier_form_line Row ns = earlier_row_of ns
 earlier_form_line Starts ns = earlier_starts_of ns
 earlier_form_line Mark ns = earlier_alone_of mark ns
+-- the forms of drawing, which no word named then
+earlier_form_line f ns = form_line f ns
 
 abbrev pub earlier_form_named : List ℕ → Option Form
 earlier_form_named w =
@@ -176,9 +179,54 @@ same_form_line Answer ns = same_alone answer ns
 same_form_line Row ns = same_row ns
 same_form_line Starts ns = same_starts ns
 same_form_line Mark ns = same_alone mark ns
+same_form_line f ns = refl
 
-pub same_form_named : (w : List ℕ) → form_named w ≡ earlier_form_named w
-same_form_named w = refl
+abbrev pub earlier_words : List (List ℕ × Form)
+earlier_words =
+    (codes "task", Task)
+    ∷ (codes "edge", Edge)
+    ∷ (codes "machine", Machine)
+    ∷ (codes "switch", Switch)
+    ∷ (codes "link", Link)
+    ∷ (codes "route", Route)
+    ∷ (codes "bookings", Bookings)
+    ∷ (codes "answer", Answer)
+    ∷ (codes "row", Row)
+    ∷ (codes "starts", Starts)
+    ∷ (codes "mark", Mark)
+    ∷ []
+
+-- the words of drawing
+abbrev pub later_words : List (List ℕ × Form)
+later_words =
+    (codes "place", Place)
+    ∷ (codes "try", Try)
+    ∷ (codes "keep", Keep)
+    ∷ (codes "strike", Strike)
+    ∷ (codes "back", Back)
+    ∷ (codes "fill", Fill)
+    ∷ (codes "show", Show)
+    ∷ []
+
+-- a word is looked for in the front of a table first
+front_named : (front back : List (List ℕ × Form)) (w : List ℕ) → named (front ++ back) w ≡ option_or (named front w) (named back w)
+front_named [] back w = refl
+front_named (entry ∷ front) back w =
+    elim (same_word w entry.0) as (λ b. (if b then Some entry.1 else named (front ++ back) w) ≡ option_or (if b then Some entry.1 else named front w) (named back w)) [
+      | true ↦ refl
+      | false ↦ front_named front back w
+    ]
+
+-- a word names what it named, or else a form of drawing
+pub form_named_as_before : (w : List ℕ) → form_named w ≡ option_or (earlier_form_named w) (named later_words w)
+form_named_as_before w = front_named earlier_words later_words w
+
+or_none : {T : Type 0} (o : Option T) → option_or o None ≡ o
+or_none None = refl
+or_none (Some x) = refl
+
+pub same_form_named : (w : List ℕ) → named later_words w ≡ None → form_named w ≡ earlier_form_named w
+same_form_named w none = form_named_as_before w ∙ ap (option_or (earlier_form_named w)) none ∙ or_none (earlier_form_named w)
 
 pub same_kind_named : (w : List ℕ) → kind_named w ≡ earlier_kind_named w
 same_kind_named w = refl
@@ -193,8 +241,46 @@ same_numbered None ns = refl
 same_numbered (Some f) None = refl
 same_numbered (Some f) (Some ns) = same_form_line f ns
 
-pub same_line : (w : List ℕ) (ws : List (List ℕ)) → line_of w ws ≡ earlier_line_of w ws
-same_line w ws = rw (same_routes ws, same_numbered (form_named w) (numbers_of ws)) refl
+-- what does not begin with a later word says what it said, or is not understood as it was not
+pub same_line : (w : List ℕ) (ws : List (List ℕ)) → named later_words w ≡ None → same_word w (codes "hand") ≡ false → same_word w (codes "timetable") ≡ false → line_of w ws ≡ earlier_line_of w ws
+same_line w ws none other more = rw (same_routes ws, other, more, same_form_named w none, same_numbered (earlier_form_named w) (numbers_of ws)) refl
+
+-- `hand` and `timetable` named nothing
+hand_named_nothing : (w : List ℕ) → same_word w (codes "hand") ≡ true → earlier_form_named w ≡ None
+unfolding same_word
+hand_named_nothing w is = subst (λ v. earlier_form_named v ≡ None) (sym ((bytes_eq-Decides w (codes "hand")).0 is)) refl
+
+timetable_named_nothing : (w : List ℕ) → same_word w (codes "timetable") ≡ true → earlier_form_named w ≡ None
+unfolding same_word
+timetable_named_nothing w is = subst (λ v. earlier_form_named v ≡ None) (sym ((bytes_eq-Decides w (codes "timetable")).0 is)) refl
+
+numbered_as_before : (before later : Option Form) (ns : Option (List ℕ)) (d : LineData) → earlier_numbered_of before ns ≡ Some d → numbered_of (option_or before later) ns ≡ Some d
+numbered_as_before None later ns d is = cc
+numbered_as_before (Some f) later ns d is = same_numbered (Some f) ns ∙ is
+
+-- a word that named nothing may have come since
+not_later : (b : Bool) (new old : Option LineData) (f : Option Form) (ns : Option (List ℕ)) (d : LineData) → (b ≡ true → f ≡ None) → earlier_numbered_of f ns ≡ Some d → old ≡ Some d → (if b then new else old) ≡ Some d
+not_later true new old None ns d nothing said is = cc said
+not_later true new old (Some f) ns d nothing said is = cc (nothing refl)
+not_later false new old f ns d nothing said is = is
+
+later_as_before : (w : List ℕ) (ws : List (List ℕ)) (f : Option Form) (ns : Option (List ℕ)) (d : LineData) → (same_word w (codes "hand") ≡ true → f ≡ None) → (same_word w (codes "timetable") ≡ true → f ≡ None) → earlier_numbered_of f ns ≡ Some d
+    → (if same_word w (codes "hand") then hand_of ws else if same_word w (codes "timetable") then timetable_of ws else numbered_of (option_or f (named later_words w)) ns) ≡ Some d
+later_as_before w ws f ns d hand time said =
+    let same = numbered_as_before f (named later_words w) ns d said in
+    let numbered = numbered_of (option_or f (named later_words w)) ns in
+    let timed = if same_word w (codes "timetable") then timetable_of ws else numbered in
+    not_later (same_word w (codes "hand")) (hand_of ws) timed f ns d hand said (not_later (same_word w (codes "timetable")) (timetable_of ws) numbered f ns d time said same)
+
+-- what was understood says what it said
+pub line_as_before : (w : List ℕ) (ws : List (List ℕ)) (d : LineData) → earlier_line_of w ws ≡ Some d → line_of w ws ≡ Some d
+line_as_before w ws d is =
+    rw (form_named_as_before w)
+    (elim (same_word w (codes "routes")) as (λ b. cond b (earlier_routes_of ws) (earlier_numbered_of (earlier_form_named w) (numbers_of ws)) ≡ Some d
+    → (if b then routes_of ws else if same_word w (codes "hand") then hand_of ws else if same_word w (codes "timetable") then timetable_of ws else numbered_of (option_or (earlier_form_named w) (named later_words w)) (numbers_of ws)) ≡ Some d) [
+      | true ↦ λ said. same_routes ws ∙ said
+      | false ↦ λ said. later_as_before w ws (earlier_form_named w) (numbers_of ws) d (hand_named_nothing w) (timetable_named_nothing w) said
+    ] is)
 
 -- how a text splits, and which lines can be written, with the recursive form of `All`
 pub record EarlierSplits (bs : List ℕ) (ls : List (List ℕ)) : Type 0 where
@@ -214,6 +300,7 @@ EarlierWithin answer = Unit {0}
 EarlierWithin (row t station start) = (t ≤ 127) × (station ≤ 15) × Fits32 start
 EarlierWithin (starts e ss) = (e ≤ 223) × (1 ≤ length ss) × (length ss ≤ 15) × AllByRecursion Fits32 ss
 EarlierWithin mark = Unit {0}
+EarlierWithin d = Within d
 
 each_recursive : {X : Type 0} (P : X → Type 0) (xs : List (List X)) → All (All P) xs → AllByRecursion (AllByRecursion P) xs
 each_recursive P [] a = tt
@@ -237,3 +324,4 @@ within_as_before answer w = w
 within_as_before (row t station start) w = w
 within_as_before (starts e ss) w = (w.0, w.1, w.2, All-from_recursion Fits32 ss w.3)
 within_as_before mark w = w
+within_as_before d w = w

@@ -12,4 +12,5 @@ pub mod Named
 pub mod Drained
 pub mod Filled
 pub mod Stated
+pub mod Spacing
 mod EarlierForms

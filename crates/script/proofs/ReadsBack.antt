@@ -7,7 +7,7 @@ use Rattle.std.proofs.lemmas.Bool.Decides.{nat_tests}
 use Rattle.std.proofs.lemmas.Fmt.{digits_decimal, digits_value-decimal, decimal_nonempty}
 use Rattle.std.proofs.lemmas.List.Elements.{recursion_from_All}
 use Rattle.std.proofs.lemmas.Str.Parse.{IsNumeralModel, numerals_by_fold, tells_all_ascii_digits}
-use Rattle.script.specs.Data.{LineData, task, edge, machine, switch, link, routes, route, bookings, answer, row, starts, mark}
+use Rattle.script.specs.Data.{LineData, task, edge, machine, switch, link, routes, route, bookings, answer, row, starts, mark, place, try, keep, strike, back, fill, show, hand_in, timetable}
 use Rattle.script.specs.Form.{form_named}
 use Rattle.script.specs.Number.{value_after, decimal_value, number_of, numbers_of}
 use Rattle.script.specs.Read.{read, says, spaced}
@@ -15,9 +15,10 @@ use Rattle.script.specs.Statement.{form_line, hops_of, line_of}
 use Rattle.script.specs.Words.{solid, same_word}
 use Rattle.script.specs.Written.{Fits32, ReadsBack, hop_numbers}
 use Rattle.script.specs.declared.form.Form.{Form}
-use Rattle.script.specs.declared.form.Form.TheVariants.{Task, Edge, Machine, Switch, Link, Route, Bookings, Answer, Row, Starts, Mark}
+use Rattle.script.specs.declared.form.Form.TheVariants.{Task, Edge, Machine, Switch, Link, Route, Bookings, Answer, Row, Starts, Mark, Place, Try, Keep, Strike, Back, Fill, Show}
 use Rattle.script.specs.declared.line.HopWords.{HopWords}
 use Rattle.script.specs.declared.line.RouteKind.TheVariants.{Hops, Slowness, Written}
+use Rattle.script.specs.declared.line.TimetableKind.TheVariants.{Roll, Bits}
 use Rattle.script.proofs.Spaced.{bare, is_word, line_words_spaced}
 
 abbrev AllFit : List ℕ → Type 0
@@ -51,9 +52,9 @@ read_back : (w : List ℕ) (ws : List (List ℕ)) (d : LineData) → is_word w �
 read_back w ws d plain words said = rw (line_words_spaced (w ∷ ws) (grind (arith, nat_tests)), said) refl
 
 -- a line of numbers
-numbered_back : (w : List ℕ) (f : Form) (ns : List ℕ) (d : LineData) → is_word w ≡ true → same_word w (codes "routes") ≡ false → form_named w ≡ Some f → AllFit ns → form_line f ns ≡ Some d → read (spaced (w ∷ map decimal ns)) ≡ says d
-numbered_back w f ns d plain other named fit said =
-    read_back w (map decimal ns) d plain (decimal_words ns fit) (rw (other, named, numbers_decimal ns fit) said)
+numbered_back : (w : List ℕ) (f : Form) (ns : List ℕ) (d : LineData) → is_word w ≡ true → same_word w (codes "routes") ≡ false → same_word w (codes "hand") ≡ false → same_word w (codes "timetable") ≡ false → form_named w ≡ Some f → AllFit ns → form_line f ns ≡ Some d → read (spaced (w ∷ map decimal ns)) ≡ says d
+numbered_back w f ns d plain other more last named fit said =
+    read_back w (map decimal ns) d plain (decimal_words ns fit) (rw (other, more, last, named, numbers_decimal ns fit) said)
 
 hops_back : (hs : List HopWords) → hops_of (hop_numbers hs) ≡ Some hs
 hops_back [] = refl
@@ -61,22 +62,34 @@ hops_back (h ∷ hs) = rw (hops_back hs) refl
 
 pub reads_back : ReadsBack
 unfolding same_word
-reads_back (task work) p = numbered_back (codes "task") Task (work ∷ []) (task work) refl refl refl (p, tt) refl
-reads_back (edge from to volume) p = numbered_back (codes "edge") Edge (from ∷ to ∷ volume ∷ []) (edge from to volume) refl refl refl (p.0, (p.1, (p.2, tt))) refl
-reads_back (machine speed) p = numbered_back (codes "machine") Machine (speed ∷ []) (machine speed) refl refl refl (p, tt) refl
-reads_back switch p = numbered_back (codes "switch") Switch [] switch refl refl refl tt refl
+reads_back (task work) p = numbered_back (codes "task") Task (work ∷ []) (task work) refl refl refl refl refl (p, tt) refl
+reads_back (edge from to volume) p = numbered_back (codes "edge") Edge (from ∷ to ∷ volume ∷ []) (edge from to volume) refl refl refl refl refl (p.0, (p.1, (p.2, tt))) refl
+reads_back (machine speed) p = numbered_back (codes "machine") Machine (speed ∷ []) (machine speed) refl refl refl refl refl (p, tt) refl
+reads_back switch p = numbered_back (codes "switch") Switch [] switch refl refl refl refl refl tt refl
 reads_back (link speed stations) p =
-    numbered_back (codes "link") Link (speed ∷ stations) (link speed stations) refl refl refl (p.0, recursion_from_All Fits32 stations p.1) refl
+    numbered_back (codes "link") Link (speed ∷ stations) (link speed stations) refl refl refl refl refl (p.0, recursion_from_All Fits32 stations p.1) refl
 reads_back (routes Hops) p = read_back (codes "routes") (codes "hops" ∷ []) (routes Hops) refl refl refl
 reads_back (routes Slowness) p = read_back (codes "routes") (codes "slowness" ∷ []) (routes Slowness) refl refl refl
 reads_back (routes Written) p = read_back (codes "routes") (codes "written" ∷ []) (routes Written) refl refl refl
 reads_back (route from to hops) p =
-    numbered_back (codes "route") Route (from ∷ to ∷ hop_numbers hops) (route from to hops) refl refl refl (p.0, (p.1, recursion_from_All Fits32 (hop_numbers hops) p.2)) (ap (option_map (route from to)) (hops_back hops))
+    numbered_back (codes "route") Route (from ∷ to ∷ hop_numbers hops) (route from to hops) refl refl refl refl refl (p.0, (p.1, recursion_from_All Fits32 (hop_numbers hops) p.2)) (ap (option_map (route from to)) (hops_back hops))
 reads_back (bookings most) p =
-    numbered_back (codes "bookings") Bookings (most ∷ []) (bookings most) refl refl refl (omega arith, tt) (grind (arith, nat_tests))
-reads_back answer p = numbered_back (codes "answer") Answer [] answer refl refl refl tt refl
+    numbered_back (codes "bookings") Bookings (most ∷ []) (bookings most) refl refl refl refl refl (omega arith, tt) (grind (arith, nat_tests))
+reads_back answer p = numbered_back (codes "answer") Answer [] answer refl refl refl refl refl tt refl
 reads_back (row t station start) p =
-    numbered_back (codes "row") Row (t ∷ station ∷ start ∷ []) (row t station start) refl refl refl (omega (arith, p.0), (omega (arith, p.1), (p.2, tt))) (grind (arith, nat_tests))
+    numbered_back (codes "row") Row (t ∷ station ∷ start ∷ []) (row t station start) refl refl refl refl refl (omega (arith, p.0), (omega (arith, p.1), (p.2, tt))) (grind (arith, nat_tests))
 reads_back (starts e ss) p =
-    numbered_back (codes "starts") Starts (e ∷ ss) (starts e ss) refl refl refl (omega (arith, p.0), recursion_from_All Fits32 ss p.3) (grind (arith, nat_tests))
-reads_back mark p = numbered_back (codes "mark") Mark [] mark refl refl refl tt refl
+    numbered_back (codes "starts") Starts (e ∷ ss) (starts e ss) refl refl refl refl refl (omega (arith, p.0), recursion_from_All Fits32 ss p.3) (grind (arith, nat_tests))
+reads_back mark p = numbered_back (codes "mark") Mark [] mark refl refl refl refl refl tt refl
+reads_back (place t m) p = numbered_back (codes "place") Place (t ∷ m ∷ []) (place t m) refl refl refl refl refl (p.0, (p.1, tt)) refl
+reads_back (try t m) p = numbered_back (codes "try") Try (t ∷ m ∷ []) (try t m) refl refl refl refl refl (p.0, (p.1, tt)) refl
+reads_back keep p = numbered_back (codes "keep") Keep [] keep refl refl refl refl refl tt refl
+reads_back strike p = numbered_back (codes "strike") Strike [] strike refl refl refl refl refl tt refl
+reads_back back p = numbered_back (codes "back") Back [] back refl refl refl refl refl tt refl
+reads_back fill p = numbered_back (codes "fill") Fill [] fill refl refl refl refl refl tt refl
+reads_back show p = numbered_back (codes "show") Show [] show refl refl refl refl refl tt refl
+reads_back hand_in p = read_back (codes "hand") (codes "in" ∷ []) hand_in refl refl refl
+reads_back (timetable Roll) p = read_back (codes "timetable") (codes "roll" ∷ []) (timetable Roll) refl refl refl
+reads_back (timetable (Bits words)) p =
+    let fits : Fits32 words = omega (arith, p) in
+    read_back (codes "timetable") (codes "bits" ∷ map decimal (words ∷ [])) (timetable (Bits words)) refl (decimal_words (words ∷ []) (fits, tt)) (rw (number_decimal words fits) (grind (arith, nat_tests)))

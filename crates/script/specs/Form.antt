@@ -2,7 +2,7 @@
 use Rattle.std.specs.Prelude.{ℕ, List, [], ◌∷◌, codes, Option}
 use Rattle.script.specs.Words.{named}
 use Rattle.script.specs.declared.form.Form.{Form}
-use Rattle.script.specs.declared.form.Form.TheVariants.{Task, Edge, Machine, Switch, Link, Route, Bookings, Answer, Row, Starts, Mark}
+use Rattle.script.specs.declared.form.Form.TheVariants.{Task, Edge, Machine, Switch, Link, Route, Bookings, Answer, Row, Starts, Mark, Place, Try, Keep, Strike, Back, Fill, Show}
 
 abbrev pub form_words : List (List ℕ × Form)
 form_words =
@@ -17,6 +17,13 @@ form_words =
     ∷ (codes "row", Row)
     ∷ (codes "starts", Starts)
     ∷ (codes "mark", Mark)
+    ∷ (codes "place", Place)
+    ∷ (codes "try", Try)
+    ∷ (codes "keep", Keep)
+    ∷ (codes "strike", Strike)
+    ∷ (codes "back", Back)
+    ∷ (codes "fill", Fill)
+    ∷ (codes "show", Show)
     ∷ []
 
 abbrev pub form_named : List ℕ → Option Form

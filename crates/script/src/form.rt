@@ -20,6 +20,13 @@ pub enum Form {
     Row,
     Starts,
     Mark,
+    Place,
+    Try,
+    Keep,
+    Strike,
+    Back,
+    Fill,
+    Show,
 }
 
 /// The form that a word names.
@@ -42,6 +49,13 @@ impl TryFrom<&[u8]> for Form {
             b"row" => Ok(Form::Row),
             b"starts" => Ok(Form::Starts),
             b"mark" => Ok(Form::Mark),
+            b"place" => Ok(Form::Place),
+            b"try" => Ok(Form::Try),
+            b"keep" => Ok(Form::Keep),
+            b"strike" => Ok(Form::Strike),
+            b"back" => Ok(Form::Back),
+            b"fill" => Ok(Form::Fill),
+            b"show" => Ok(Form::Show),
             _ => Err(LineError::NotUnderstood),
         }
     }

@@ -8,6 +8,14 @@ pub enum RouteKind {
     Written,
 }
 
+/// Which timetable the script asks for.
+#[derive(Clone, Copy, Debug, PartialEq, Eq)]
+pub enum TimetableKind {
+    Roll,
+    /// A bit sheet with this many words for each resource.
+    Bits(u32),
+}
+
 /// One hop of a written route: the numbers of a link and of the station that it reaches.
 #[derive(Clone, Copy, Debug, PartialEq, Eq)]
 pub struct HopWords {
@@ -51,6 +59,8 @@ pub enum Line {
     Bookings {
         most: u32,
     },
+    /// `timetable roll` or `timetable bits W`, with 0 to 1024 words
+    Timetable(TimetableKind),
     /// `answer`
     Answer,
     /// `row TASK STATION START`, with a task up to 127 and a station up to 15
@@ -66,4 +76,26 @@ pub enum Line {
     },
     /// `mark`
     Mark,
+    /// `place TASK MACHINE`
+    Place {
+        task: u32,
+        machine: u32,
+    },
+    /// `try TASK MACHINE`
+    Try {
+        task: u32,
+        machine: u32,
+    },
+    /// `keep`
+    Keep,
+    /// `strike`
+    Strike,
+    /// `back`
+    Back,
+    /// `fill`
+    Fill,
+    /// `show`
+    Show,
+    /// `hand in`
+    HandIn,
 }

@@ -3,7 +3,7 @@ ghost use Rattle.std.specs.Prelude.{◌≡◌};
 ghost use Rattle.std.specs.Option.{ok_or};
 ghost use Rattle.script.specs.Data.{line_data};
 ghost use Rattle.script.specs.Left.{numbers_left};
-ghost use Rattle.script.specs.Statement.{task_of, edge_of, machine_of, alone_of, link_of, route_of, bookings_of, row_of, starts_of, form_line, kind_named, routes_of, line_of};
+ghost use Rattle.script.specs.Statement.{task_of, edge_of, machine_of, alone_of, link_of, route_of, bookings_of, row_of, starts_of, place_of, try_of, form_line, kind_named, routes_of, hand_of, bits_of, timetable_of, line_of};
 ghost use Rattle.script.specs.Tell.{TellsLine};
 ghost use Rattle.script.specs.Words.{words_left};
 ghost use Rattle.script.specs.declared.error.LineError.TheVariants.{NotUnderstood};
@@ -11,16 +11,18 @@ ghost use Rattle.script.specs.declared.error.LineError.TheVariants.{NotUnderstoo
 use crate::error::LineError;
 use crate::form::Form;
 use crate::hop::Hops;
-use crate::line::{Line, RouteKind};
+use crate::line::{Line, RouteKind, TimetableKind};
 use crate::list::list_of;
 use crate::number::Numbers;
 use crate::words::Words;
 use std::alloc::Global;
 
-// These are the limits of plans and rolls, said again, since this crate stands on no other.
+// These are the limits of plans and timetables, said again, since this crate stands on no other.
 
 /// The size of the largest list of bookings.
 const MOST_BOOKINGS: u32 = 4096;
+/// The most words of a bit sheet for each resource.
+const MOST_WORDS: u32 = 1024;
 /// The largest task of a row.
 const LAST_TASK: u32 = 127;
 /// The largest station of a row.
@@ -119,6 +121,22 @@ fn starts(heap: Global, mut numbers: Numbers) -> Result<Line, LineError>
     }
 }
 
+/// `place TASK MACHINE`
+fn place(numbers: Numbers) -> Result<Line, LineError>
+    ensures { TellsLine result (place_of (numbers_left numbers.entry)) }
+{
+    let [task, machine] = numbers.exactly::<2>()?;
+    Ok(Line::Place { task, machine })
+}
+
+/// `try TASK MACHINE`
+fn trial(numbers: Numbers) -> Result<Line, LineError>
+    ensures { TellsLine result (try_of (numbers_left numbers.entry)) }
+{
+    let [task, machine] = numbers.exactly::<2>()?;
+    Ok(Line::Try { task, machine })
+}
+
 /// What a line of a form says with these numbers.
 fn numbered(heap: Global, form: Form, numbers: Numbers) -> Result<Line, LineError>
     ensures { TellsLine result (form_line form (numbers_left numbers.entry)) }
@@ -136,6 +154,13 @@ fn numbered(heap: Global, form: Form, numbers: Numbers) -> Result<Line, LineErro
         Form::Row => row(numbers),
         Form::Starts => starts(heap, numbers),
         Form::Mark => alone(Line::Mark, numbers),
+        Form::Place => place(numbers),
+        Form::Try => trial(numbers),
+        Form::Keep => alone(Line::Keep, numbers),
+        Form::Strike => alone(Line::Strike, numbers),
+        Form::Back => alone(Line::Back, numbers),
+        Form::Fill => alone(Line::Fill, numbers),
+        Form::Show => alone(Line::Show, numbers),
     }
 }
 
@@ -166,12 +191,54 @@ fn routes(mut words: Words) -> Result<Line, LineError>
     RouteKind::try_from(word).map(Line::Routes)
 }
 
+/// `hand in`: `words` are those after the first.
+#[tactic(auto, using(crate::proofs::Named::is_name))]
+fn hand(mut words: Words) -> Result<Line, LineError>
+    ensures { TellsLine result (hand_of (words_left words.entry)) }
+{
+    let (Some(word), None) = (words.next(), words.next()) else {
+        return Err(LineError::NotUnderstood);
+    };
+    match word {
+        b"in" => Ok(Line::HandIn),
+        _ => Err(LineError::NotUnderstood),
+    }
+}
+
+/// `timetable bits W`: `numbers` are those after the words.
+fn bits(numbers: Numbers) -> Result<Line, LineError>
+    ensures { TellsLine result (bits_of (numbers_left numbers.entry)) }
+{
+    match numbers.exactly::<1>()? {
+        [words @ ..=MOST_WORDS] => Ok(Line::Timetable(TimetableKind::Bits(words))),
+        _ => Err(LineError::NotUnderstood),
+    }
+}
+
+/// `timetable roll` or `timetable bits W`: `words` are those after the first.
+#[tactic(auto, using(crate::proofs::Named::is_name))]
+fn timetable(mut words: Words) -> Result<Line, LineError>
+    ensures { TellsLine result (timetable_of (words_left words.entry)) }
+{
+    match (words.next(), Numbers::new(words)) {
+        (Some(b"roll"), Some(numbers)) => alone(Line::Timetable(TimetableKind::Roll), numbers),
+        (Some(b"bits"), Some(numbers)) => bits(numbers),
+        _ => Err(LineError::NotUnderstood),
+    }
+}
+
 /// What a line says that begins with `word`, before `words`.
 pub fn statement_of(heap: Global, word: &[u8], words: Words) -> Result<Line, LineError>
     ensures { TellsLine result (line_of word.now (words_left words.entry)) }
 {
     if word == b"routes".as_slice() {
         return routes(words);
+    }
+    if word == b"hand".as_slice() {
+        return hand(words);
+    }
+    if word == b"timetable".as_slice() {
+        return timetable(words);
     }
     let form = Form::try_from(word)?;
     let numbers = Numbers::new(words).ok_or(LineError::NotUnderstood)?;

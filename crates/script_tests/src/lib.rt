@@ -5,3 +5,5 @@
 mod parting;
 #[cfg(test)]
 mod reading;
+#[cfg(test)]
+mod writing;

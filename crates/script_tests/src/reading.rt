@@ -1,5 +1,5 @@
 //! Lines and what they say.
-use script::{HopWords, Line, LineError, RouteKind, read_line, read_number};
+use script::{HopWords, Line, LineError, RouteKind, TimetableKind, read_line, read_number};
 use std::process::Abort;
 use std::test::Fail;
 
@@ -34,6 +34,47 @@ fn understands(rt: HostRuntime) {
         },
     );
     says(&rt, b"mark", Line::Mark);
+}
+
+#[test]
+fn understands_timetables(rt: HostRuntime) {
+    let kinds: [(&[u8], TimetableKind); 5] = [
+        (b"timetable roll", TimetableKind::Roll),
+        (b"\ttimetable  roll # the list\r", TimetableKind::Roll),
+        (b"timetable bits 0", TimetableKind::Bits(0)),
+        (b"timetable bits 064", TimetableKind::Bits(64)),
+        (b"timetable bits 1024#x", TimetableKind::Bits(1024)),
+    ];
+    for (line, kind) in kinds {
+        says(&rt, line, Line::Timetable(kind));
+    }
+}
+
+#[test]
+fn understands_drawing(rt: HostRuntime) {
+    says(
+        &rt,
+        b"place 01 4294967295 # any",
+        Line::Place {
+            task: 1,
+            machine: 4294967295,
+        },
+    );
+    says(
+        &rt,
+        b"try 128 16",
+        Line::Try {
+            task: 128,
+            machine: 16,
+        },
+    );
+    says(&rt, b"keep", Line::Keep);
+    says(&rt, b"strike", Line::Strike);
+    says(&rt, b"back", Line::Back);
+    says(&rt, b"fill", Line::Fill);
+    says(&rt, b"show", Line::Show);
+    says(&rt, b"hand in", Line::HandIn);
+    says(&rt, b"\thand\t in # done", Line::HandIn);
 }
 
 #[test]
@@ -79,7 +120,7 @@ fn understands_lists(rt: HostRuntime) -> Result<(), Fail> {
 
 #[test]
 fn refuses(rt: HostRuntime) {
-    let lines: [&[u8]; 26] = [
+    let lines: [&[u8]; 55] = [
         b"task 4294967296",
         b"task -1",
         b"task 1_0",
@@ -106,6 +147,35 @@ fn refuses(rt: HostRuntime) {
         b"routes fast",
         b"starts 0 1 x",
         b"mark 0",
+        b"place 1",
+        b"place 1 1 1",
+        b"place 1 x",
+        b"try",
+        b"try 1 4294967296",
+        b"keep 1",
+        b"strike 1",
+        b"back 1",
+        b"fill 1",
+        b"show 1",
+        b"hand",
+        b"hand on",
+        b"hand in in",
+        b"hand in 1",
+        b"in",
+        b"timetable",
+        b"timetable list",
+        b"timetable 64",
+        b"timetable roll 1",
+        b"timetable roll roll",
+        b"timetable roll bits 1",
+        b"timetable bits",
+        b"timetable bits x",
+        b"timetable bits 1 1",
+        b"timetable bits 1 x",
+        b"timetable bits 1025",
+        b"timetable bits 4294967296",
+        b"Timetable roll",
+        b"roll",
     ];
     for line in lines {
         assert_eq!(rt; read_line(rt.alloc(), line), Err(LineError::NotUnderstood));

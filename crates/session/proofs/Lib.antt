@@ -2,3 +2,8 @@ pub mod Pairs
 pub mod Taken
 pub mod Reading
 pub mod Sets
+pub mod Lists
+pub mod Incoming
+pub mod OneCall
+pub mod FollowedLines
+pub mod Opened

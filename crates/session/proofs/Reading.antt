@@ -34,7 +34,7 @@ split l [] ls' p = let none : Some l ≡ None = p.first in cc
 split l (m ∷ ls) ls' p = let same : Some l ≡ Some m = p.first in let left : ls' ≡ ls = p.left in cc
 
 -- of its answer come the statements
-pub first_stated : (n : ℕ) (l : List ℕ) (ls ls' : List (List ℕ)) → Comes l ls ls' → statements n ls ≡ stated (n + 1) (read l) (statements (n + 1) ls')
+pub first_stated : (n : ℕ) (l : List ℕ) (ls ls' : List (List ℕ)) → Comes l ls ls' → statements n ls ≡ stated (n + 1) l (read l) (statements (n + 1) ls')
 first_stated n l ls ls' p = ap (statements n) (split l ls ls' p)
 
 -- what it means that a line takes memory
@@ -45,18 +45,18 @@ takes not_understood h = absurd h
 
 module _ (n : ℕ) (before : List Statement) (l : List ℕ) (ls ls' : List (List ℕ)) (so_far : statements n ls ≡ before) (p : Comes l ls ls') where
   -- a line that is understood is given first
-  line_given : (line : Line) → read l ≡ says (line_data line) → before ≡ record { number = n + 1; said = Some (line_data line) } ∷ statements (n + 1) ls'
-  line_given line is = sym so_far ∙ first_stated n l ls ls' p ∙ ap (λ a. stated (n + 1) a (statements (n + 1) ls')) is
+  line_given : (line : Line) → read l ≡ says (line_data line) → before ≡ record { number = n + 1; bytes = l; said = Some (line_data line) } ∷ statements (n + 1) ls'
+  line_given line is = sym so_far ∙ first_stated n l ls ls' p ∙ ap (λ a. stated (n + 1) l a (statements (n + 1) ls')) is
 
   -- so is why a line was not read
-  error_given : (e : LineError) → Reads (Err e) (read l) → IsFirst (Some (Err e)) (n + 1) before (statements (n + 1) ls')
-  error_given NotUnderstood is = sym so_far ∙ first_stated n l ls ls' p ∙ ap (λ a. stated (n + 1) a (statements (n + 1) ls')) is
+  error_given : (e : LineError) → Reads (Err e) (read l) → IsFirst (Some (Err e)) (n + 1) l before (statements (n + 1) ls')
+  error_given NotUnderstood is = sym so_far ∙ first_stated n l ls ls' p ∙ ap (λ a. stated (n + 1) l a (statements (n + 1) ls')) is
   error_given Memory h =
       let t = takes (read l) h in
-      (t.0, sym so_far ∙ first_stated n l ls ls' p ∙ ap (λ a. stated (n + 1) a (statements (n + 1) ls')) t.1, t.2)
+      (t.0, sym so_far ∙ first_stated n l ls ls' p ∙ ap (λ a. stated (n + 1) l a (statements (n + 1) ls')) t.1, t.2)
 
   -- what a line answers, if it has a word
-  pub item_given : (r : Result (Option Line) LineError) (x : Result Line LineError) → Some x ≡ result_transpose r → Reads r (read l) → IsFirst (Some x) (n + 1) before (statements (n + 1) ls')
+  pub item_given : (r : Result (Option Line) LineError) (x : Result Line LineError) → Some x ≡ result_transpose r → Reads r (read l) → IsFirst (Some x) (n + 1) l before (statements (n + 1) ls')
   item_given (Ok None) x none h = cc
-  item_given (Ok (Some line)) x same h = subst (λ y. IsFirst y (n + 1) before (statements (n + 1) ls')) (sym same) (line_given line h)
-  item_given (Err e) x same h = subst (λ y. IsFirst y (n + 1) before (statements (n + 1) ls')) (sym same) (error_given e h)
+  item_given (Ok (Some line)) x same h = subst (λ y. IsFirst y (n + 1) l before (statements (n + 1) ls')) (sym same) (line_given line h)
+  item_given (Err e) x same h = subst (λ y. IsFirst y (n + 1) l before (statements (n + 1) ls')) (sym same) (error_given e h)

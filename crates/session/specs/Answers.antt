@@ -1,6 +1,5 @@
--- What is printed of an answer, and the plan that it makes, line by line.
-use Rattle.std.specs.Prelude.{ℕ, if◌then◌else◌, List, [], ◌∷◌, ◌++◌, take, Some, None, Option, nat_lt}
-use Rattle.std.specs.Option.{option_map_or, option_and_then}
+-- What is printed of a candidate's answer, and the plan that it makes, line by line.
+use Rattle.std.specs.Prelude.{ℕ, if◌then◌else◌, List, [], take, Some, None, Option, nat_lt}
 use Rattle.model.specs.Data.{JobData, NetData}
 use Rattle.model.specs.Plans.{PlanData, blank_plan, with_task, with_starts}
 use Rattle.model.specs.Rows.{row_fits}
@@ -8,8 +7,7 @@ use Rattle.model.specs.declared.plan.Placement.{Placement}
 use Rattle.routes.specs.Legs.{Ways}
 use Rattle.marker.specs.Verdicts.{verdict}
 use Rattle.script.specs.Data.{LineData, answer, row, starts, mark}
-use Rattle.session.specs.Printing.{not_understood_line, verdict_line}
-use Rattle.session.specs.Statements.{Statement}
+use Rattle.session.specs.Printing.{verdict_line}
 
 -- a task's row is filled; a row or a station past the tables changes nothing
 abbrev pub filled : PlanData → ℕ → Placement → PlanData
@@ -34,14 +32,3 @@ module _ (J : JobData) (N : NetData) (ρ : Ways) where
   text_of P (starts e ss) = Some []
   text_of P mark = Some (verdict_line J N P (verdict J N ρ P))
   text_of P _ = None
-
-  -- what a statement prints, before what the later ones print of the plan after it
-  abbrev pub printed_before : (PlanData → List ℕ) → PlanData → Statement → List ℕ
-  printed_before later P s =
-      option_map_or (λ text. text ++ later (option_map_or (plan_after P) s.said P)) (option_and_then (text_of P) s.said)
-      (not_understood_line s.number)
-
-  -- what the statements after the setting print; none is followed after one that is not understood
-  abbrev pub answered : PlanData → List Statement → List ℕ
-  answered P [] = []
-  answered P (s ∷ ss) = printed_before (λ Q. answered Q ss) P s

@@ -1,10 +1,15 @@
 pub mod Printing
+pub mod Shows
 pub mod Pairs
+pub mod TableForms
 pub mod Settings
 pub mod RouteRows
 pub mod Statements
 pub mod Stops
 pub mod Answers
+pub mod Requests
+pub mod Drawings
 pub mod Sessions
 pub mod Following
+pub mod Going
 pub mod Makings

@@ -3,12 +3,14 @@ use Rattle.std.specs.Prelude.{ℕ, List, [], ◌∷◌, length, OnOk, Option, Re
 use Rattle.std.specs.List.{concat}
 use Rattle.std.specs.Io.KnownBytes.{Appends}
 use Rattle.model.specs.Data.{JobData, NetData, task_count, station_count, link_count}
-use Rattle.model.specs.Plans.{PlanData, placed_count, plan_length}
+use Rattle.model.specs.Plans.{PlanData}
 use Rattle.model.specs.Refusals.{refusal_number, refusal_detail}
 use Rattle.model.specs.declared.refusal.Refusal.{Refusal}
 use Rattle.marker.specs.Letters.{letter}
 use Rattle.marker.specs.declared.verdict.Verdict.{Verdict}
-use Rattle.marker.specs.declared.verdict.Verdict.TheVariants.{Lawful, Broken}
+use Rattle.certificate.specs.Slips.{slip_of}
+use Rattle.certificate.specs.declared.slip.Slip.{Slip}
+use Rattle.certificate.specs.declared.slip.Slip.TheVariants.{Lawful, Broken}
 use Rattle.script.specs.declared.line.RouteKind.{RouteKind}
 use Rattle.script.specs.declared.line.RouteKind.TheVariants.{Hops, Slowness, Written}
 use Rattle.session.specs.declared.stop.Maker.{Maker}
@@ -45,11 +47,14 @@ made_line J N kind =
     (codes "job of " ∷ decimal (task_count J) ∷ codes " tasks and " ∷ decimal (length J.edges) ∷ codes " edges, network of "
     ∷ decimal (station_count N) ∷ codes " stations and " ∷ decimal (link_count N) ∷ codes " links, routes " ∷ origin_text kind ∷ codes "\n" ∷ [])
 
--- the verdict on a plan
-unfoldable pub verdict_line : JobData → NetData → PlanData → Verdict → List ℕ
-verdict_line J N P Lawful =
+-- a slip for a plan of the job
+unfoldable pub slip_line : JobData → Slip → List ℕ
+slip_line J (Lawful placed length) =
     concat
-    (codes "lawful placed " ∷ decimal (placed_count P) ∷ codes " of " ∷ decimal (task_count J) ∷ codes " length "
-    ∷ decimal (plan_length J N P) ∷ codes "\n" ∷ [])
-verdict_line J N P (Broken rule first second) =
+    (codes "lawful placed " ∷ decimal placed ∷ codes " of " ∷ decimal (task_count J) ∷ codes " length " ∷ decimal length ∷ codes "\n" ∷ [])
+slip_line J (Broken rule first second) =
     concat (codes "broken " ∷ (letter rule ∷ []) ∷ codes " " ∷ decimal first ∷ codes " " ∷ decimal second ∷ codes "\n" ∷ [])
+
+-- the verdict on a plan, printed as its slip is
+abbrev pub verdict_line : JobData → NetData → PlanData → Verdict → List ℕ
+verdict_line J N P v = slip_line J (slip_of J N P v)

@@ -4,7 +4,6 @@ use Rattle.std.specs.Option.{option_map_or}
 use Rattle.model.specs.Data.{JobData, NetData, station_count}
 use Rattle.model.specs.JobLimits.{job_refusal}
 use Rattle.model.specs.NetworkLimits.{network_refusal}
-use Rattle.model.specs.Plans.{blank_plan}
 use Rattle.model.specs.declared.refusal.Refusal.{Refusal}
 use Rattle.routes.specs.Kinds.{fewer, no_hop, one_hop_more, faster, no_delay, slower_by}
 use Rattle.routes.specs.Legs.{Ways}
@@ -14,10 +13,12 @@ use Rattle.routes.specs.declared.hop.Hop.{Hop}
 use Rattle.script.specs.Lines.{lines_of}
 use Rattle.script.specs.declared.line.RouteKind.{RouteKind}
 use Rattle.script.specs.declared.line.RouteKind.TheVariants.{Hops, Slowness, Written}
-use Rattle.session.specs.Answers.{answered}
+use Rattle.session.specs.Drawings.{beginning, followed}
 use Rattle.session.specs.Printing.{refusal_line, not_understood_line, made_line}
 use Rattle.session.specs.RouteRows.{table_rows}
 use Rattle.session.specs.Settings.{SettingData, setting_of, no_setting, is_setting, with_line}
+use Rattle.session.specs.TableForms.{empty_by}
+use Rattle.session.specs.declared.table_form.TableForm.{TableForm}
 use Rattle.session.specs.Statements.{Statement, statements}
 use Rattle.session.specs.declared.setting.Setting.{Setting}
 use Rattle.session.specs.declared.stop.Stop.{Stop}
@@ -52,24 +53,24 @@ abbrev pub unless_refused : List ℕ → Option Refusal → List ℕ → List �
 unless_refused maker None text = text
 unless_refused maker (Some r) text = refusal_line maker r
 
--- what is printed once the routes are there: what was made, and the answers
-abbrev pub over_routes : JobData → NetData → RouteKind → Ways → List Statement → List ℕ
-over_routes J N kind ρ ss = made_line J N kind ++ answered J N ρ blank_plan ss
+-- what is printed once the routes are there: what was made, and then of the other lines; over an empty timetable of the form that the script asks for
+abbrev pub over_routes : JobData → NetData → TableForm → RouteKind → Ways → List Statement → List ℕ
+over_routes J N form kind ρ ss = made_line J N kind ++ followed J N ρ (beginning (empty_by form)) ss
 
 -- what is printed once the job and the network are there
-abbrev pub over_network : JobData → NetData → RouteKind → List (Option (List Hop)) → List Statement → List ℕ
-over_network J N Hops written ss = over_routes J N Hops (searched_route fewer one_hop_more N no_hop) ss
-over_network J N Slowness written ss = over_routes J N Slowness (searched_route faster slower_by N no_delay) ss
-over_network J N Written written ss =
+abbrev pub over_network : JobData → NetData → TableForm → RouteKind → List (Option (List Hop)) → List Statement → List ℕ
+over_network J N form Hops written ss = over_routes J N form Hops (searched_route fewer one_hop_more N no_hop) ss
+over_network J N form Slowness written ss = over_routes J N form Slowness (searched_route faster slower_by N no_delay) ss
+over_network J N form Written written ss =
     let rows = table_rows (station_count N) written in
-    unless_refused (codes "routes") (written_refusal N rows) (over_routes J N Written (written_route N rows) ss)
+    unless_refused (codes "routes") (written_refusal N rows) (over_routes J N form Written (written_route N rows) ss)
 
 -- what is printed of a setting and the statements after it
 abbrev pub over_setting : SettingData → List Statement → List ℕ
 over_setting S ss =
     unless_refused (codes "job") (job_refusal S.works S.edges)
     (unless_refused (codes "network") (network_refusal S.stations S.links)
-    (over_network (record { works = S.works; edges = S.edges }) (record { stations = S.stations; links = S.links }) S.kind S.written ss))
+    (over_network (record { works = S.works; edges = S.edges }) (record { stations = S.stations; links = S.links }) S.table S.kind S.written ss))
 
 abbrev pub over_gathering : Gathering → List ℕ
 over_gathering (ready S ss) = over_setting S ss

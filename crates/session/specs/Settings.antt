@@ -7,10 +7,12 @@ use Rattle.model.specs.declared.network.Station.{Station}
 use Rattle.model.specs.declared.network.Station.TheVariants.{Machine, Switch}
 use Rattle.model.specs.declared.stations.StationSet.{StationSet}
 use Rattle.routes.specs.declared.hop.Hop.{Hop}
-use Rattle.script.specs.Data.{LineData, task, edge, machine, switch, link, routes, route, bookings, answer, row, starts, mark}
+use Rattle.script.specs.Data.{LineData, task, edge, machine, switch, link, routes, route, bookings, timetable, answer, row, starts, mark, place, try, keep, strike, back, fill, show, hand_in}
 use Rattle.script.specs.declared.line.HopWords.{HopWords}
 use Rattle.script.specs.declared.line.RouteKind.{RouteKind}
 use Rattle.script.specs.declared.line.RouteKind.TheVariants.{Hops}
+use Rattle.script.specs.declared.line.TimetableKind.TheVariants.{Roll}
+use Rattle.session.specs.declared.table_form.TableForm.{TableForm}
 use Rattle.session.specs.Pairs.{pairs_of}
 use Rattle.session.specs.declared.setting.Setting.{Setting}
 
@@ -20,6 +22,7 @@ pub record SettingData : Type 0 where
   pub stations : List Station
   pub links : List Link
   pub kind : RouteKind
+  pub table : TableForm
   -- the hops written for the pair of stations s and t, if a line has any, stand at place 16 × s + t
   pub written : List (Option (List Hop))
 
@@ -30,12 +33,13 @@ setting_of s = record {
   stations = vec_items s.stations;
   links = vec_items s.links;
   kind = s.kind;
+  table = s.table;
   written = pairs_of s.written;
 }
 
--- before any line: by hops
+-- before any line: by hops, and a roll with room for 4,096 bookings
 abbrev pub no_setting : SettingData
-no_setting = record { works = []; edges = []; stations = []; links = []; kind = Hops; written = replicate 256 None }
+no_setting = record { works = []; edges = []; stations = []; links = []; kind = Hops; table = record { kind = Roll; most = 4096 }; written = replicate 256 None }
 
 -- a set with more stations, one after the other
 abbrev pub with_stations : StationSet → List ℕ → StationSet
@@ -62,10 +66,19 @@ is_setting (link speed stations) = true
 is_setting (routes kind) = true
 is_setting (route from to hops) = true
 is_setting (bookings most) = true
+is_setting (timetable kind) = true
 is_setting answer = false
 is_setting (row t station start) = false
 is_setting (starts e ss) = false
 is_setting mark = false
+is_setting (place t m) = false
+is_setting (try t m) = false
+is_setting keep = false
+is_setting strike = false
+is_setting back = false
+is_setting fill = false
+is_setting show = false
+is_setting hand_in = false
 
 -- the setting with one line more; a line that does not belong to it changes nothing
 abbrev pub with_line : SettingData → LineData → SettingData
@@ -76,4 +89,6 @@ with_line S switch = record S { stations = S.stations ++ Switch ∷ [] }
 with_line S (link speed stations) = record S { links = S.links ++ link_from speed stations ∷ [] }
 with_line S (routes kind) = record S { kind = kind }
 with_line S (route from to hops) = record S { written = with_route S.written from to (map hop_from hops) }
+with_line S (bookings most) = record S { table = record S.table { most = most } }
+with_line S (timetable kind) = record S { table = record S.table { kind = kind } }
 with_line S _ = S

@@ -1,15 +1,13 @@
 //! A candidate's answer: its rows, and the marker's verdict on it.
 ghost use Rattle.std.specs.Prelude.{◌≡◌};
-ghost use Rattle.model.specs.Plans.{plan_of, blank_plan};
+ghost use Rattle.model.specs.Plans.{plan_of};
 ghost use Rattle.script.specs.Data.{line_data};
-ghost use Rattle.session.specs.Answers.{plan_after, text_of, answered};
+ghost use Rattle.session.specs.Answers.{plan_after, text_of};
 ghost use Rattle.session.specs.Makings.{on};
-ghost use Rattle.session.specs.Statements.{to_come};
 ghost use Rattle.session.specs.Stops.{Prints};
 
 use crate::made::Made;
 use crate::print::print_verdict;
-use crate::session::Session;
 use crate::stop::Stop;
 use marker::mark;
 use model::{Placement, Plan, TransferRow};
@@ -18,7 +16,7 @@ use script::Line;
 use std::io::Write;
 
 /// Carries out one line of an answer. A line of the setting is not understood here.
-fn answer_line<R: Routes, W: Write>(
+pub(crate) fn answer_line<R: Routes, W: Write>(
     out: &mut W,
     made: &Made<'_, R>,
     plan: &mut Plan,
@@ -48,20 +46,4 @@ fn answer_line<R: Routes, W: Write>(
         _ => return Err(Stop::NotUnderstood),
     }
     Ok(())
-}
-
-impl<W: Write> Session<'_, '_, W> {
-    ghost use Rattle.session.specs.Following.{Follows};
-
-    /// Carries out the lines that follow the setting, over an answer that is blank at first.
-    pub fn answers<R: Routes>(&mut self, made: &Made<'_, R>) -> Result<(), Stop>
-        ensures { Follows W.contents result self.old self.new (on made.now answered blank_plan (to_come self.old.reader)) }
-    {
-        let mut plan = Plan::new();
-        // Not a `for`: while it has the reader on loan, an invariant has no name for the session.
-        while let Some(line) = self.reader.next() {
-            answer_line(self.out, made, &mut plan, line?)?;
-        }
-        Ok(())
-    }
 }

@@ -15,6 +15,7 @@ use crate::session::Session;
 use crate::setting::{Setting, WrittenHops};
 use crate::stop::{Maker, Stop};
 use crate::table::table_of;
+use crate::table_form::TableForm;
 use model::{Job, Network};
 use routes::searched::kinds::{routes_by_hops, routes_by_slowness};
 use routes::{Routes, WrittenRoutes};
@@ -43,10 +44,10 @@ impl<W: Write> Session<'_, '_, W> {
 
     /// Says what was made, and carries out the lines that follow the setting.
     fn follow_answers<R: Routes>(&mut self, made: &Made<'_, R>) -> Result<(), Stop>
-        ensures { Follows W.contents result self.old self.new (on made.now (λ J N ρ. over_routes J N made.now.kind ρ) (to_come self.old.reader)) }
+        ensures { Follows W.contents result self.old self.new (on made.now (λ J N ρ. over_routes J N made.now.table made.now.kind ρ) (to_come self.old.reader)) }
     {
         print_made(self.out, made)?;
-        self.answers(made)
+        self.lines(made)
     }
 
     /// Makes the routes that the script asks for, and goes on over them.
@@ -54,19 +55,20 @@ impl<W: Write> Session<'_, '_, W> {
         &mut self,
         job: &Job,
         network: Network,
+        table: TableForm,
         kind: RouteKind,
         written: WrittenHops,
     ) -> Result<(), Stop>
-        ensures { Follows W.contents result self.old self.new (over_network (job_of job.now) (net_of network) kind (pairs_of written) (to_come self.old.reader)) }
+        ensures { Follows W.contents result self.old self.new (over_network (job_of job.now) (net_of network) table kind (pairs_of written) (to_come self.old.reader)) }
     {
         match kind {
             RouteKind::Hops => {
                 let routes = routes_by_hops(self.alloc, network)?;
-                self.follow_answers(&Made::new(job, &routes, kind))
+                self.follow_answers(&Made::new(job, &routes, kind, table))
             }
             RouteKind::Slowness => {
                 let routes = routes_by_slowness(self.alloc, network)?;
-                self.follow_answers(&Made::new(job, &routes, kind))
+                self.follow_answers(&Made::new(job, &routes, kind, table))
             }
             RouteKind::Written => {
                 let rows = table_of(self.alloc, network.station_count(), written)?;
@@ -74,7 +76,7 @@ impl<W: Write> Session<'_, '_, W> {
                     Maker::Routes,
                     refusal,
                 ))?;
-                self.follow_answers(&Made::new(job, &routes, kind))
+                self.follow_answers(&Made::new(job, &routes, kind, table))
             }
         }
     }
@@ -89,6 +91,7 @@ impl<W: Write> Session<'_, '_, W> {
             stations,
             links,
             kind,
+            table,
             written,
         } = setting;
         let job = Job::new(works, edges).map_err(|refusal| Stop::Refused(Maker::Job, refusal))?;
@@ -96,7 +99,7 @@ impl<W: Write> Session<'_, '_, W> {
             Maker::Network,
             refusal,
         ))?;
-        self.follow_network(&job, network, kind, written)
+        self.follow_network(&job, network, table, kind, written)
     }
 
     /// Follows the lines, as far as they are understood.

@@ -2,13 +2,20 @@
 #![tactic(auto)]
 
 mod answer;
+mod draw;
 mod follow;
+mod lines;
 mod made;
 mod print;
 mod reader;
+mod request;
+mod script_sheet;
 mod session;
 mod setting;
+mod show;
 mod stop;
 mod table;
+mod table_form;
+mod work;
 
 pub use follow::{follow_script, run};

@@ -1,14 +1,15 @@
 //! The lines that the program prints.
 ghost use Rattle.std.specs.Prelude.{◌≡◌};
+ghost use Rattle.model.specs.Data.{job_of};
 ghost use Rattle.routes.specs.RoutedPlans as Routed;
 ghost use Rattle.session.specs.Makings.{on};
-ghost use Rattle.session.specs.Printing.{Adds, maker_name, refusal_line, not_understood_line, origin_text, made_line, verdict_line};
+ghost use Rattle.session.specs.Printing.{Adds, maker_name, refusal_line, not_understood_line, origin_text, made_line, slip_line, verdict_line};
 
 use crate::made::Made;
 use crate::stop::Maker;
+use certificate::Slip;
 use marker::Verdict;
-use model::Refusal;
-use model::plan::measures::{placed_count, plan_length};
+use model::{Job, Refusal};
 use routes::{RoutedPlan, Routes};
 use script::RouteKind;
 use std::io;
@@ -58,8 +59,24 @@ pub fn print_made<R: Routes, W: Write>(out: &mut W, made: &Made<'_, R>) -> io::R
     )
 }
 
-/// What the marker says of a plan.
-#[tactic(auto, unfolding(crate::specs::Printing::verdict_line))]
+/// A slip for a plan of the job.
+#[tactic(auto, unfolding(crate::specs::Printing::slip_line))]
+pub fn print_slip<W: Write>(out: &mut W, job: &Job, slip: Slip) -> io::Result<()>
+    ensures { Adds W.contents result out.old out.new (slip_line (job_of job.now) slip) }
+{
+    match slip {
+        Slip::Lawful { placed, length } => {
+            writeln!(
+                out,
+                "lawful placed {placed} of {} length {length}",
+                job.task_count()
+            )
+        }
+        Slip::Broken(rule, first, second) => { writeln!(out, "broken {rule} {first} {second}") }
+    }
+}
+
+/// What the marker says of a plan, as its slip.
 pub fn print_verdict<R: Routes, W: Write>(
     out: &mut W,
     marked: &RoutedPlan<'_, R>,
@@ -67,16 +84,5 @@ pub fn print_verdict<R: Routes, W: Write>(
 ) -> io::Result<()>
     ensures { Adds W.contents result out.old out.new (Routed.on marked.now (λ J N ρ P. verdict_line J N P verdict)) }
 {
-    match verdict {
-        Verdict::Lawful => {
-            writeln!(
-                out,
-                "lawful placed {} of {} length {}",
-                placed_count(marked.plan),
-                marked.job.task_count(),
-                plan_length(marked.job, marked.routes.network(), marked.plan)
-            )
-        }
-        Verdict::Broken(rule, first, second) => { writeln!(out, "broken {rule} {first} {second}") }
-    }
+    print_slip(out, marked.job, Slip::of(marked, verdict))
 }

@@ -5,12 +5,14 @@ ghost use Rattle.script.specs.Lines.{lines_left};
 use script::{Line, LineError, Lines, read_line};
 use std::alloc::Global;
 
-/// The lines that are still to come, and how many were read.
+/// The lines that are still to come, how many were read, and the last of them.
 #[derive(Drop)]
 pub struct Reader<'a> {
     alloc: Global,
     lines: Lines<'a>,
     number: usize,
+    /// The line that was read last, as it stands.
+    bytes: &'a [u8],
     /// The line that was read last, if it was handed back. Not a `Peekable`: it would hide `number`.
     handed_back: Option<Line>,
     ghost counted: { number + length (lines_left lines) < 2 ^ 64 },
@@ -28,6 +30,7 @@ impl<'a> Reader<'a> {
             alloc,
             lines: Lines::new(text),
             number: 0,
+            bytes: b"",
             handed_back: None,
         }
     }
@@ -39,9 +42,16 @@ impl<'a> Reader<'a> {
         self.number
     }
 
+    /// The bytes of the line that was read last.
+    pub fn bytes(&self) -> &'a [u8]
+        ensures { result.now ≡ self.now.bytes.now }
+    {
+        self.bytes
+    }
+
     /// Takes the line that was read last back: it comes next again.
     pub fn hand_back(&mut self, line: Line)
-        ensures { to_come self.new ≡ put_back self.old.number (Some line) (unread self.old) }
+        ensures { to_come self.new ≡ put_back self.old.number self.old.bytes.now (Some line) (unread self.old) }
     {
         self.handed_back = Some(line);
     }
@@ -65,6 +75,7 @@ impl Iterator for Reader<'_> {
         // A loop, not `find_map`: what its closure would leave in `number` has no name in a proof.
         while let Some(bytes) = self.lines.next() {
             self.number += 1;
+            self.bytes = bytes;
             if let Some(said) = read_line(self.alloc, bytes).transpose() {
                 return Some(said);
             }

@@ -3,17 +3,19 @@ ghost use Rattle.std.specs.Prelude.{◌≡◌, map, Some, None, if◌then◌else
 ghost use Rattle.script.specs.Data.{line_data};
 ghost use Rattle.session.specs.Settings.{setting_of, no_setting, link_from, hop_from, with_route, is_setting, with_line};
 
+use crate::table_form::TableForm;
 use model::network::MOST_STATIONS;
 use model::{Edge, Link, Speed, Station, StationSet};
 use routes::Hop;
-use script::{HopWords, Line, RouteKind};
+use script::{HopWords, Line, RouteKind, TimetableKind};
 use std::alloc::{AllocError, Global};
 use std::collections::BTreeMap;
+use timetable::roll::MOST_BOOKINGS;
 
 /// The hops that are written for pairs of stations, by origin and goal.
 pub type WrittenHops = BTreeMap<(usize, usize), Vec<Hop>>;
 
-/// The lists, in the order of their lines, and the hops of the pairs that a line has.
+/// The lists, in the order of their lines, the hops of the pairs that a line has, and which timetable is wanted.
 #[derive(Drop)]
 pub struct Setting {
     pub works: Vec<u32>,
@@ -21,6 +23,7 @@ pub struct Setting {
     pub stations: Vec<Station>,
     pub links: Vec<Link>,
     pub kind: RouteKind,
+    pub table: TableForm,
     pub written: WrittenHops,
 }
 
@@ -66,6 +69,10 @@ impl Setting {
             stations: Vec::new(alloc),
             links: Vec::new(alloc),
             kind: RouteKind::Hops,
+            table: TableForm {
+                kind: TimetableKind::Roll,
+                most: MOST_BOOKINGS,
+            },
             written: BTreeMap::new(alloc),
         }
     }
@@ -108,7 +115,8 @@ impl Setting {
                 let hops = hops_of(alloc, &hops)?;
                 self.write_route(from, to, hops)?;
             }
-            Line::Bookings { most: _ } => {}
+            Line::Bookings { most } => self.table.most = most as usize,
+            Line::Timetable(kind) => self.table.kind = kind,
             other => return Ok(Some(other)),
         }
         Ok(None)

@@ -6,6 +6,7 @@ use model::Refusal;
 use script::LineError;
 use std::alloc::AllocError;
 use std::{fmt, io};
+use timetable::{BitSheetError, RollError};
 
 /// What is made of a setting.
 #[derive(Clone, Copy, Debug, PartialEq, Eq)]
@@ -69,5 +70,27 @@ impl From<io::Error> for Stop {
 
     fn from(error: io::Error) -> Stop {
         Stop::Failed(error)
+    }
+}
+
+impl From<RollError> for Stop {
+    ghost use Rattle.session.specs.Stops.{IsFailure};
+
+    ghost from_gives = { λ _ stop. IsFailure stop };
+
+    // No line asks for more bookings than a roll can hold: what is left is memory.
+    fn from(_error: RollError) -> Stop {
+        Stop::Failed(AllocError.into())
+    }
+}
+
+impl From<BitSheetError> for Stop {
+    ghost use Rattle.session.specs.Stops.{IsFailure};
+
+    ghost from_gives = { λ _ stop. IsFailure stop };
+
+    // No line asks for more bookings or words than a bit sheet can hold: what is left is memory.
+    fn from(_error: BitSheetError) -> Stop {
+        Stop::Failed(AllocError.into())
     }
 }

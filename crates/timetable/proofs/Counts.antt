@@ -9,7 +9,7 @@ use Rattle.std.proofs.lemmas.List.Sums.{sum_by-cons}
 use Rattle.model.specs.Bookings.{is_same}
 use Rattle.model.specs.declared.booking.Booking.{Booking}
 
-list_any_count_by : {X : Type 0} (p : X → Bool) (xs : List X) → list_any p xs ≡ nat_lt 0 (count_by p xs)
+pub list_any_count_by : {X : Type 0} (p : X → Bool) (xs : List X) → list_any p xs ≡ nat_lt 0 (count_by p xs)
 list_any_count_by p [] = refl
 list_any_count_by p (x ∷ xs) =
     let rest = list_any_count_by p xs in

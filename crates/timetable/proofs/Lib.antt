@@ -7,3 +7,12 @@ pub mod Orders
 pub mod Pairs
 pub mod Passes
 pub mod Sounds
+mod Words
+mod WordRuns
+mod WordGaps
+mod Scans
+mod WordSteps
+mod Writes
+mod Marked
+mod Gaps
+mod Remarks

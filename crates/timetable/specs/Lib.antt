@@ -7,3 +7,6 @@ pub mod Parts
 pub mod Laws
 pub mod Cases
 pub mod Rolls
+pub mod Bits
+pub mod Marks
+pub mod BitSheets

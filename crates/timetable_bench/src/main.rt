@@ -1,15 +1,16 @@
-//! Ten thousand questions to each of four full timetables.
+//! Ten thousand questions to each of four full timetables, of each kind.
 //! Prints what the answers add up to and, if it is given an argument, how long they took:
 //! `rt run -- time`, in this folder.
 #![tactic(auto)]
 
 use anyhow::Context;
 use model::{Booking, Tick};
-use std::alloc::Global;
 use std::env;
+use std::rt::Clock;
 use std::time::Instant;
+use timetable::bit_sheet::MOST_WORDS;
 use timetable::roll::MOST_BOOKINGS;
-use timetable::{Askable, Roll, Writable};
+use timetable::{Askable, BitSheet, Roll, Writable};
 
 /// As many bookings as a roll can hold.
 const BOOKINGS: Tick = MOST_BOOKINGS as Tick;
@@ -54,9 +55,8 @@ impl Load {
         i.checked_rem(self.resources).unwrap_or(0) as usize
     }
 
-    /// A timetable with these bookings.
-    fn booked(&self, alloc: Global) -> anyhow::Result<Roll> {
-        let mut roll = Roll::new(alloc, MOST_BOOKINGS)?;
+    /// Makes these bookings.
+    fn book<W: Writable>(&self, table: &mut W) -> anyhow::Result<()> {
         for i in 0..BOOKINGS {
             let place = i.wrapping_mul(self.step) % BOOKINGS;
             let booking = Booking {
@@ -64,33 +64,50 @@ impl Load {
                 start: place * 10,
                 length: 4,
             };
-            roll.book(booking).context("a booking was refused")?;
+            table.book(booking).context("a booking was refused")?;
         }
-        Ok(roll)
+        Ok(())
     }
 
     /// Asks for more ticks than any gap between two bookings has, and adds up the answers.
-    fn asked(&self, roll: &Roll) -> u64 {
+    fn ask<T: Askable>(&self, table: &T) -> u64 {
         let ticks = self.resources.saturating_mul(10);
         (0..QUESTIONS)
-            .filter_map(|i| roll.earliest(self.resource(i), i % 100, ticks))
+            .filter_map(|i| table.earliest(self.resource(i), i % 100, ticks))
             .map(u64::from)
             .fold(0, u64::wrapping_add)
     }
 }
 
+/// Books a load on an empty timetable and asks it, and prints the answers and, where it is `timed`, the times.
+fn run<R: Print + Clock, W: Writable>(
+    rt: &R,
+    kind: &str,
+    table: &mut W,
+    load: Load,
+    timed: bool,
+) -> anyhow::Result<()> {
+    let name = load.name;
+    let begin = Instant::now(rt)?;
+    load.book(table)?;
+    let booked = begin.elapsed(rt)?.as_micros();
+    let begin = Instant::now(rt)?;
+    let sum = load.ask(table);
+    let asked = begin.elapsed(rt)?.as_micros();
+    println!(rt; "{kind}, {name}: {QUESTIONS} answers add up to {sum}")?;
+    if timed {
+        println!(rt; "  booked in {booked} microseconds, asked in {asked}")?;
+    }
+    Ok(())
+}
+
 fn main(rt: HostRuntime) -> anyhow::Result<()> {
     let timed = env::args(&rt)?.count() > 1;
     for load in LOADS {
-        let roll = load.booked(rt.alloc())?;
-        let begin = Instant::now(&rt)?;
-        let sum = load.asked(&roll);
-        let took = begin.elapsed(&rt)?.as_micros();
-        let name = load.name;
-        println!(rt; "{name}: {QUESTIONS} answers add up to {sum}")?;
-        if timed {
-            println!(rt; "  in {took} microseconds")?;
-        }
+        let mut roll = Roll::new(rt.alloc(), MOST_BOOKINGS)?;
+        run(&rt, "roll", &mut roll, load, timed)?;
+        let mut sheet = BitSheet::new(rt.alloc(), MOST_WORDS, MOST_BOOKINGS)?;
+        run(&rt, "bit sheet", &mut sheet, load, timed)?;
     }
     Ok(())
 }

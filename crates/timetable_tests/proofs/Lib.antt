@@ -1,1 +1,2 @@
 pub mod Booked
+pub mod Shortening

@@ -11,6 +11,9 @@ use timetable::{Askable, Writable};
 
 pub mod layer;
 #[cfg(test)]
+mod sheets;
+pub mod short;
+#[cfg(test)]
 mod worked;
 
 /// Books the resource from its earliest start at or after `from`, and answers that start.

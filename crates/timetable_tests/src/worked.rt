@@ -8,13 +8,13 @@ use timetable::ask::is_free;
 use timetable::{Askable, Roll, RollError, Writable};
 
 /// The number and the detail of the refusal, if there is one.
-fn refused<T: Drop>(outcome: Result<T, Refusal>) -> Option<(u32, usize)> {
+pub(crate) fn refused<T: Drop>(outcome: Result<T, Refusal>) -> Option<(u32, usize)> {
     outcome
         .err()
         .map(|refusal| (refusal.number(), refusal.detail()))
 }
 
-fn span(resource: usize, start: u32, length: u32) -> Booking {
+pub(crate) fn span(resource: usize, start: u32, length: u32) -> Booking {
     Booking {
         resource,
         start,

@@ -29,6 +29,13 @@ impl Job {
         self.edges.len()
     }
 
+    /// The edges, by their numbers.
+    pub fn edges(&self) -> &[Edge]
+        ensures { result.now ≡ (job_of self.now).edges }
+    {
+        &self.edges
+    }
+
     /// The edge of a number.
     pub fn edge(&self, i: usize) -> Option<Edge>
         ensures { result ≡ slice_get (job_of self.now).edges i }

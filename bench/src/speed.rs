@@ -1,0 +1,121 @@
+//! The speed of both sides, at the largest plan that is marked and at a large job that is filled.
+
+use crate::cases::{Description, Random};
+use crate::proved::Proved;
+use crate::reference;
+use std::fmt;
+use std::hint::black_box;
+use std::time::{Duration, Instant};
+
+/// How often each script is followed; the fastest counts.
+const ROUNDS: usize = 60;
+
+/// The proved side is to take at most so many times as long.
+const MOST: f64 = 1.5;
+
+/// The time that a task takes on both sides.
+pub struct Times {
+    task: &'static str,
+    proved: Duration,
+    reference: Duration,
+}
+
+impl Times {
+    fn quotient(&self) -> f64 {
+        self.proved.as_secs_f64() / self.reference.as_secs_f64()
+    }
+}
+
+impl fmt::Display for Times {
+    fn fmt(&self, f: &mut fmt::Formatter<'_>) -> fmt::Result {
+        write!(
+            f,
+            "{}: proved {:.3} ms, independent {:.3} ms, quotient {:.2}",
+            self.task,
+            self.proved.as_secs_f64() * 1e3,
+            self.reference.as_secs_f64() * 1e3,
+            self.quotient()
+        )?;
+        if self.quotient() > MOST {
+            write!(f, ", which is more than {MOST}")?;
+        }
+        Ok(())
+    }
+}
+
+/// A script without the lines that are timed, and those lines, each of which is written so many times.
+struct Timed {
+    task: &'static str,
+    setting: Vec<u8>,
+    line: &'static [u8],
+    repeats: u32,
+}
+
+impl Timed {
+    /// Marking the largest plan.
+    fn marking() -> Timed {
+        let script = include_str!("../../examples/largest.script");
+        let setting = script
+            .lines()
+            .filter(|line| *line != "mark")
+            .collect::<Vec<_>>();
+        Timed {
+            task: "mark 128 tasks and 224 transfers of 15 hops",
+            setting: setting.join("\n").into_bytes(),
+            line: b"\nmark",
+            repeats: 4,
+        }
+    }
+
+    /// Filling as large a job as there is, on as large a network.
+    fn filling() -> Timed {
+        let mut random = Random::of_script(1, 1);
+        let description = Description::of_machines(&mut random);
+        Timed {
+            task: "fill 128 tasks and 224 edges on 16 machines and 32 links",
+            setting: description.lines().concat().join("\n").into_bytes(),
+            line: b"\nfill",
+            repeats: 1,
+        }
+    }
+
+    /// The times of one line: the script with the lines less the script without them.
+    fn times(&self, proved: &mut Proved) -> Times {
+        // A line that changes nothing ends the setting, so that the job is made.
+        let without = [&self.setting, &b"\nanswer"[..]].concat();
+        let with = [&self.setting[..], &self.line.repeat(self.repeats as usize)].concat();
+        let mut times = [Duration::MAX; 4];
+        for _ in 0..ROUNDS {
+            // The sides take turns, so that what else the machine does strikes both.
+            let round = [
+                time(|| proved.follow(black_box(&with)).len()),
+                time(|| proved.follow(black_box(&without)).len()),
+                time(|| reference::follow(black_box(&with)).len()),
+                time(|| reference::follow(black_box(&without)).len()),
+            ];
+            for (fastest, time) in times.iter_mut().zip(round) {
+                *fastest = time.min(*fastest);
+            }
+        }
+        let [proved_with, proved_without, reference_with, reference_without] = times;
+        let of_one = |with: Duration, without| with.saturating_sub(without) / self.repeats;
+        Times {
+            task: self.task,
+            proved: of_one(proved_with, proved_without),
+            reference: of_one(reference_with, reference_without),
+        }
+    }
+}
+
+/// How long some work takes.
+fn time<T>(work: impl FnOnce() -> T) -> Duration {
+    let begin = Instant::now();
+    black_box(work());
+    begin.elapsed()
+}
+
+/// The times of both sides at both tasks.
+pub fn times() -> [Times; 2] {
+    let mut proved = Proved::new();
+    [Timed::marking(), Timed::filling()].map(|timed| timed.times(&mut proved))
+}

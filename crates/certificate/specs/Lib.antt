@@ -1,0 +1,7 @@
+pub mod Answers
+pub mod Sheets
+pub mod Calls
+pub mod Certificate
+pub mod Promise
+pub mod Cases
+pub mod Slips
