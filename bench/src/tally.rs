@@ -60,7 +60,7 @@ const EXPECTED: [&str; 50] = [
 /// What no script can bring about, and why.
 const BEYOND_SCRIPTS: [&str; 3] = [
     "refused 18: a task and a transfer each add at most 1,000,000 ticks to what was booked before, so 128 tasks and 224 \
-     transfers are done long before tick 2,000,000,000",
+     transfers are done long before tick 2,000,000,000, where a roll ends (no script here asks for a bit sheet)",
     "refused 20: one sheet, one plan and one timetable serve the whole script",
     "strike refused 15: a sheet on trial has a step",
 ];
