@@ -1,5 +1,5 @@
 -- The transfers into a task that are being booked, edge by edge.
-use Rattle.std.proofs.Common.{◌≡◌, ◌≢◌, ℕ, ◌+◌, ◌<◌, ◌≤◌, Bool, true, false, not, List, [], ◌∷◌, map, length, get_or, is_none, is_some, Some, None, Ok, Err, Option, option_map, Result, refl, sym, ap, subst, ◌∙◌, ◌==◌, eq-eqb, arith}
+use Rattle.std.proofs.Common.{◌≡◌, ◌≢◌, ℕ, ◌+◌, ◌<◌, ◌≤◌, Bool, true, false, not, List, [], ◌∷◌, map, length, get_or, is_some, Some, None, Ok, Err, option_map, Result, refl, sym, ap, subst, ◌∙◌, ◌==◌, eq-eqb, arith}
 use Rattle.std.specs.List.{slice_get, sum_by}
 use Rattle.std.proofs.lemmas.List.Sums.{sum_by-cons}
 use Rattle.std.proofs.lemmas.Option.{slice_get-get_or, slice_get-map}
@@ -15,10 +15,10 @@ use Rattle.planner.specs.Booked.{Extends, brought_so}
 use Rattle.planner.specs.Chains.{and_then}
 use Rattle.planner.specs.Drawing.{without_transfers}
 use Rattle.planner.specs.Edges.{incoming, is_placed, way_to}
-use Rattle.planner.specs.Placing.{Brought, bring, bring_all, unplaced_predecessor, edge_without_route}
+use Rattle.planner.specs.Placing.{Brought, bring, bring_all, unplaced_predecessor}
 use Rattle.planner.proofs.Fronts.{extends_both, extends_most}
 use Rattle.planner.proofs.Incoming.{into_from, into_here, into_skip, into_end, emptied, emptied_first}
-use Rattle.planner.proofs.Members.{filtered_at, none_filtered, none_found, numbered_at}
+use Rattle.planner.proofs.Members.{filtered_at, none_filtered, numbered_at}
 
 abbrev pub no_edge : Edge
 no_edge = record { from = 0; to = 0; volume = 0 }
@@ -37,13 +37,6 @@ all_placed J P t k x none at =
     go : (b : Bool) → not b ≡ false → b ≡ true
     go true e = refl
     go false e = cc e
-
-none_mapped : {A B : Type 0} (f : A → B) (o : Option A) → option_map f o ≡ None → o ≡ None
-none_mapped f None e = refl
-none_mapped f (Some x) e = cc e
-
-pub all_routed : (J : JobData) (ρ : Ways) (P : PlanData) (t m k : ℕ) (x : ℕ × Edge) → edge_without_route J ρ P t m ≡ None → slice_get (incoming J t) k ≡ Some x → is_none (way_to ρ P m x.1) ≡ false
-all_routed J ρ P t m k x none at = none_found (λ (i, e). is_none (way_to ρ P m e)) (incoming J t) k x (none_mapped (λ (i, e). i) _ none) at
 
 -- the edge at a place, if it is into the task, is one of those
 pub incoming_at : (J : JobData) (t i : ℕ) (e : Edge) → i < length J.edges → get_or J.edges i no_edge ≡ e → e.to ≡ t → (k : ℕ) × (slice_get (incoming J t) k ≡ Some (i, e))
@@ -120,11 +113,6 @@ module _ (J : JobData) (N : NetData) (ρ : Ways) (t m : ℕ) (P0 : PlanData) (A 
         edge_placed none =
             let member = incoming_at J t i e within at into in
             ap (λ ts. is_some (get_or ts e.from None)) u.tasks ∙ all_placed J P0 t member.0 (i, e) none member.1
-
-        pub edge_routed : edge_without_route J ρ P0 t m ≡ None → is_none (way_to ρ P m e) ≡ false
-        edge_routed none =
-            let member = incoming_at J t i e within at into in
-            ap is_none (same_way ρ P P0 m e u.tasks) ∙ all_routed J ρ P0 t m member.0 (i, e) none member.1
 
         turned : and_then (bring J N ρ m (i, e) (brought_so P T ready)) (bring_all J N ρ m (into_from J.edges t (i + 1))) ≡ whole
         turned =

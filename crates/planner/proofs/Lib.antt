@@ -3,7 +3,8 @@ pub mod BottomLevels
 pub mod Priorities
 pub mod FirstFinishes
 pub mod ListTests
-pub mod Needed
+pub mod NeedLoop
+mod Needed
 pub mod OrderRows
 pub mod OrderBookings
 pub mod Chaining

@@ -1,5 +1,5 @@
 -- Members of filtered and numbered lists, by their places.
-use Rattle.std.proofs.Common.{◌≡◌, ℕ, zero, suc, ◌+◌, Bool, true, false, cond, List, [], ◌∷◌, filter, find, Some, None, refl, sym, ap, ◌∙◌, arith}
+use Rattle.std.proofs.Common.{◌≡◌, ℕ, zero, suc, ◌+◌, Bool, true, false, cond, List, [], ◌∷◌, filter, Some, refl, sym, ap, ◌∙◌, arith}
 use Rattle.std.specs.List.{enumerate_from, slice_get}
 use Rattle.std.proofs.lemmas.Bool.{cond-true}
 
@@ -23,15 +23,6 @@ module _ {X : Type 0} (p : X → Bool) where
       go : (b : Bool) → p x ≡ b → b ≡ false
       go false e = refl
       go true e = let there = filtered_at xs i x at e in let gone : slice_get {X = X} [] there.0 ≡ Some x = ap (λ ys. slice_get ys there.0) (sym none) ∙ there.1 in cc gone
-
-  pub none_found : (xs : List X) (i : ℕ) (x : X) → find p xs ≡ None → slice_get xs i ≡ Some x → p x ≡ false
-  none_found [] i x none at = cc at
-  none_found (y ∷ ys) i x none at = go (p y) refl i none at (λ k rest there. none_found ys k x rest there)
-    where
-      go : (b : Bool) → p y ≡ b → (i : ℕ) → cond b (Some y) (find p ys) ≡ None → slice_get (y ∷ ys) i ≡ Some x → ((k : ℕ) → find p ys ≡ None → slice_get ys k ≡ Some x → p x ≡ false) → p x ≡ false
-      go true e i none at later = cc none
-      go false e zero none at later = let same : y ≡ x = cc at in ap p (sym same) ∙ e
-      go false e (suc i) none at later = later i none at
 
 pub numbered_at : {X : Type 0} (n : ℕ) (xs : List X) (i : ℕ) (x : X) → slice_get xs i ≡ Some x → slice_get (enumerate_from n xs) i ≡ Some (n + i, x)
 numbered_at n [] i x at = cc at

@@ -30,12 +30,6 @@ pub least_taken : (xs : List ℕ) → reduce min xs ≡ least xs
 least_taken [] = refl
 least_taken (x ∷ xs) = ap Some (fold_lesser x xs)
 
--- what is read of what was found
-
-pub map_twice : {A B C : Type 0} (f : A → B) (h : B → C) (o : Option A) → option_map h (option_map f o) ≡ option_map (λ x. h (f x)) o
-map_twice f h None = refl
-map_twice f h (Some x) = refl
-
 -- an edge takes at most 15 bookings, and the edges of a job at most 15 for each of them
 
 few_hops : (N : NetData) (ρ : Ways) → RouteLaws N ρ → (a b : ℕ) (route : Option (List Hop)) → ρ a b ≡ route → length (hops_of route) ≤ 15
@@ -62,5 +56,9 @@ sum_few f p each n (x ∷ xs) =
     (λ fails. let e = cond-false (p (n, x)) ((n, x) ∷ filter p (enumerate_from (n + 1) xs)) (filter p (enumerate_from (n + 1) xs)) fails in let is = ap (sum_by f) e in omega (arith, is, rest, here))
     (cases_Bool (p (n, x)))
 
-pub few_bookings : (N : NetData) (ρ : Ways) → RouteLaws N ρ → (P : PlanData) (m : ℕ) (p : ℕ × Edge → Bool) (edges : List Edge) → sum_by (λ (i, e). length (hops_of (way_to ρ P m e))) (filter p (enumerate_from 0 edges)) ≤ length edges * 15
-few_bookings N ρ laws P m p edges = sum_few _ p (λ x. few_between N ρ laws (task_row P x.1.from) (Some (record { station = m; start = 0 }))) 0 edges
+pub hops_short : (N : NetData) (ρ : Ways) → RouteLaws N ρ → (P : PlanData) (m : ℕ) (e : Edge) (k : ℕ) → Some k ≡ option_map length (way_to ρ P m e) → k ≤ 15
+hops_short N ρ laws P m e k some = go (way_to ρ P m e) some (few_between N ρ laws (task_row P e.from) (Some (record { station = m; start = 0 })))
+  where
+    go : (w : Option (List Hop)) → Some k ≡ option_map length w → length (hops_of w) ≤ 15 → k ≤ 15
+    go None some few = cc some
+    go (Some hops) some few = let same : k ≡ length hops = cc some in omega (arith, same, few)

@@ -1,12 +1,11 @@
 -- The way of an edge whose goal is to be placed on a machine.
-use Rattle.std.proofs.Common.{◌≡◌, ℕ, ◌<◌, Bool, true, false, List, [], length, is_none, Some, None, Option, option_map, ◌==◌, if◌then◌else◌, refl, ap, ◌∙◌, eqb-true}
+use Rattle.std.proofs.Common.{◌≡◌, ℕ, ◌<◌, Bool, true, false, [], Some, ◌==◌, if◌then◌else◌, refl, ap, ◌∙◌, eqb-true}
 use Rattle.model.specs.Data.{NetData, station_count}
 use Rattle.model.specs.Plans.{PlanData, task_row}
 use Rattle.model.specs.declared.job.Edge.{Edge}
 use Rattle.model.specs.declared.plan.Placement.{Placement}
 use Rattle.routes.specs.Laws.{RouteLaws}
 use Rattle.routes.specs.Legs.{Ways, way_between}
-use Rattle.routes.specs.declared.hop.Hop.{Hop}
 use Rattle.planner.specs.Edges.{way_to}
 
 module _ (N : NetData) (ρ : Ways) (laws : RouteLaws N ρ) (m : ℕ) (known : m < station_count N) where
@@ -17,10 +16,3 @@ module _ (N : NetData) (ρ : Ways) (laws : RouteLaws N ρ) (m : ℕ) (known : m 
   -- it is the route, also from a station to itself
   pub way_is_route : (P : PlanData) (e : Edge) (p : Placement) → Some p ≡ task_row P e.from → ρ p.station m ≡ way_to ρ P m e
   way_is_route P e p at = way_from p.station (p.station == m) refl ∙ ap (λ o. way_between ρ o (Some (record { station = m; start = 0 }))) at
-
-  pub way_not_missing : (P : PlanData) (e : Edge) (p : Placement) → Some p ≡ task_row P e.from → is_none (way_to ρ P m e) ≡ false → None ≡ option_map length (ρ p.station m) → ⊥
-  way_not_missing P e p at some = go (ρ p.station m) (ap is_none (way_is_route P e p at) ∙ some)
-    where
-      go : (o : Option (List Hop)) → is_none o ≡ false → None ≡ option_map length o → ⊥
-      go None there missing = cc there
-      go (Some hops) there missing = cc missing

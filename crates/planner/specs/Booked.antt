@@ -1,7 +1,7 @@
 -- What the parts of placing answer, with what they leave, read as the definitions have it.
 use Rattle.std.specs.Prelude.{◌≡◌, ℕ, List, [], ◌∷◌, ◌++◌, length, take, nat_lt, Ok, Err, Option, Result}
 use Rattle.std.specs.Bool.{then_some}
-use Rattle.std.specs.Option.{option_map}
+use Rattle.std.specs.Option.{option_map, option_map_or}
 use Rattle.model.specs.Bookings.{link_resource}
 use Rattle.model.specs.Data.{JobData, NetData, transfer_length}
 use Rattle.model.specs.Plans.{PlanData, starts_of}
@@ -74,6 +74,10 @@ start_after m d B = and_then (ask B.table m B.ready d) (λ s. Ok (s, B.plan, wit
 -- the transfers into task t and the task itself, of length d, booked on machine m
 abbrev pub book_on : JobData → NetData → Ways → PlanData → Table → ℕ → ℕ → ℕ → Result (ℕ × PlanData × Table) Refusal
 book_on J N ρ P T t m d = and_then (bring_all J N ρ m (incoming J t) (brought_so P T 0)) (start_after m d)
+
+-- how many bookings task t takes on machine m; the lowest edge into it that has no route there is refused
+abbrev pub needed : JobData → Ways → PlanData → ℕ → ℕ → Result ℕ Refusal
+needed J ρ P t m = option_map_or (λ i. Err (NoRoute i)) (edge_without_route J ρ P t m) (Ok (bookings_needed J ρ P t m))
 
 -- why no question is asked, once the task is known to be one of the job, not placed, and the machine a machine
 abbrev pub needs_refusal : JobData → Ways → PlanData → Table → ℕ → ℕ → Option Refusal

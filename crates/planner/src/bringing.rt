@@ -1,12 +1,12 @@
 //! Booking the transfers into a task.
-ghost use Rattle.std.specs.Prelude.{◌≡◌, ◌+◌, ◌<◌, ◌≤◌, true, false, [], length, is_none, IfOk, None};
+ghost use Rattle.std.specs.Prelude.{◌≡◌, ◌+◌, ◌<◌, ◌≤◌, true, false, [], length, IfOk, None};
 ghost use Rattle.model.specs.Data.{job_of, net_of, station_count};
 ghost use Rattle.model.specs.Plans.{plan_of, with_starts};
 ghost use Rattle.routes.specs.Hops.{hops_of};
 ghost use Rattle.planner.specs.Booked.{Extends, brought_so, brought};
 ghost use Rattle.planner.specs.Edges.{incoming, is_placed, way_to};
 ghost use Rattle.planner.specs.Drawing.{without_transfers};
-ghost use Rattle.planner.specs.Placing.{bring, bring_all, unplaced_predecessor, edge_without_route, bookings_needed};
+ghost use Rattle.planner.specs.Placing.{bring, bring_all, unplaced_predecessor, bookings_needed};
 
 use crate::transfers::{Transfer, carry};
 use model::plan::measures::finish;
@@ -28,7 +28,6 @@ fn bring<R: Routes, T: Writable>(
     requires known { numbered.0 < 224 }
     requires station { machine < station_count (net_of (R.over routes.now)) }
     requires placed { is_placed (plan_of plan.old) numbered.1.from ≡ true }
-    requires routed { is_none (way_to (R.route routes.now) (plan_of plan.old) machine numbered.1) ≡ false }
     requires room { length (T.meaning table.old).bookings + length (hops_of (way_to (R.route routes.now) (plan_of plan.old) machine numbered.1)) ≤ (T.meaning table.old).most }
     ensures answer { brought result (plan_of plan.new) (T.meaning table.new) ≡ bring (job_of job.now) (net_of (R.over routes.now)) (R.route routes.now) machine numbered (brought_so (plan_of plan.old) (T.meaning table.old) ready) }
     ensures row { with_starts (plan_of plan.new) numbered.0 [] ≡ with_starts (plan_of plan.old) numbered.0 [] }
@@ -36,12 +35,7 @@ fn bring<R: Routes, T: Writable>(
     ensures few { length (T.meaning table.new).bookings ≤ length (T.meaning table.old).bookings + length (hops_of (way_to (R.route routes.now) (plan_of plan.old) machine numbered.1)) }
 {
     let (i, edge) = numbered;
-    let Some(origin) = plan.task(edge.from) else {
-        return Err(Refusal::PredecessorUnplaced(edge.from));
-    };
-    let Some(_) = routes.route_length(origin.station, machine) else {
-        return Err(Refusal::NoRoute(i));
-    };
+    let origin = plan.task(edge.from).unwrap();
     let transfer = Transfer {
         volume: edge.volume,
         departure: finish(job, routes.network(), edge.from, origin),
@@ -65,7 +59,6 @@ pub(crate) fn bring_all<R: Routes, T: Writable>(
 ) -> Result<u64, Refusal>
     requires station { machine < station_count (net_of (R.over routes.now)) }
     requires placed { unplaced_predecessor (job_of job.now) (plan_of plan.old) task ≡ None }
-    requires routed { edge_without_route (job_of job.now) (R.route routes.now) (plan_of plan.old) task machine ≡ None }
     requires room { length (T.meaning table.old).bookings + bookings_needed (job_of job.now) (R.route routes.now) (plan_of plan.old) task machine ≤ (T.meaning table.old).most }
     requires blank { without_transfers (job_of job.now) task (plan_of plan.old) ≡ plan_of plan.old }
     ensures answer { brought result (plan_of plan.new) (T.meaning table.new) ≡ bring_all (job_of job.now) (net_of (R.over routes.now)) (R.route routes.now) machine (incoming (job_of job.now) task) (brought_so (plan_of plan.old) (T.meaning table.old) 0) }

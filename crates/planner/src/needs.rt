@@ -4,10 +4,11 @@ ghost use Rattle.std.specs.Option.{option_map};
 ghost use Rattle.model.specs.Data.{job_of};
 ghost use Rattle.model.specs.Plans.{plan_of};
 ghost use Rattle.routes.specs.RoutedPlans.{on};
+ghost use Rattle.planner.specs.Booked.{needed};
 ghost use Rattle.planner.specs.Edges.{way_to};
-ghost use Rattle.planner.specs.Placing.{unplaced_predecessor, edge_without_route, bookings_needed};
+ghost use Rattle.planner.specs.Placing.{unplaced_predecessor};
 
-use model::{Edge, Job, Plan};
+use model::{Edge, Job, Plan, Refusal};
 use routes::{RoutedPlan, Routes};
 
 /// The lowest predecessor of a task that is not placed.
@@ -40,39 +41,22 @@ pub(crate) fn hops_to<R: Routes>(
     }
 }
 
-/// The lowest edge into a task that has no route to a machine.
-pub(crate) fn edge_without_route<R: Routes>(
-    routed: &RoutedPlan<'_, R>,
-    task: usize,
-    machine: usize,
-) -> Option<usize>
-    ensures { result ≡ on routed.now (λ J N ρ P. edge_without_route J ρ P task machine) }
-{
-    routed
-        .job
-        .edges()
-        .iter()
-        .enumerate()
-        .filter(|(_, edge)| edge.to == task)
-        .find(|(_, edge)| hops_to(routed, **edge, machine).is_none())
-        .map(|(i, _)| i)
-}
-
-/// How many bookings a task takes on a machine.
+/// How many bookings a task takes on a machine. Refuses the lowest edge into it that has no route there.
 pub(crate) fn bookings_needed<R: Routes>(
     routed: &RoutedPlan<'_, R>,
     task: usize,
     machine: usize,
-) -> usize
-    ensures { result ≡ on routed.now (λ J N ρ P. bookings_needed J ρ P task machine) }
+) -> Result<usize, Refusal>
+    ensures { result ≡ on routed.now (λ J N ρ P. needed J ρ P task machine) }
 {
-    let hops: usize = routed
-        .job
-        .edges()
-        .iter()
-        .enumerate()
-        .filter(|(_, edge)| edge.to == task)
-        .map(|(_, edge)| hops_to(routed, *edge, machine).unwrap_or(0))
-        .sum();
-    hops + 1
+    let mut needed = 1;
+    for (i, edge) in routed.job.edges().iter().enumerate() {
+        if edge.to == task {
+            let Some(hops) = hops_to(routed, *edge, machine) else {
+                return Err(Refusal::NoRoute(i));
+            };
+            needed += hops;
+        }
+    }
+    Ok(needed)
 }

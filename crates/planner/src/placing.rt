@@ -10,12 +10,12 @@ ghost use Rattle.planner.specs.Calls.{left_with};
 ghost use Rattle.planner.specs.Drawing.{without_transfers};
 ghost use Rattle.planner.specs.Order.{in_order};
 ghost use Rattle.planner.specs.Outcomes.{outcome};
-ghost use Rattle.planner.specs.Placing.{bookings_needed, edge_without_route, placed, unplaced_predecessor};
+ghost use Rattle.planner.specs.Placing.{bookings_needed, placed, unplaced_predecessor};
 ghost use Rattle.planner.specs.States.{state};
 
 use crate::bringing::bring_all;
 use crate::clearing::{clear_transfers, roll_back};
-use crate::needs::{bookings_needed, edge_without_route, unplaced_predecessor};
+use crate::needs::{bookings_needed, unplaced_predecessor};
 use crate::order::is_in_order;
 use crate::questions::book_earliest;
 use crate::sheet::Drawing;
@@ -54,10 +54,7 @@ fn check_needs<R: Routes, T: Askable>(
     if let Some(origin) = unplaced_predecessor(routed.job, routed.plan, task) {
         return Err(Refusal::PredecessorUnplaced(origin));
     }
-    if let Some(edge) = edge_without_route(routed, task, machine) {
-        return Err(Refusal::NoRoute(edge));
-    }
-    let needed = bookings_needed(routed, task, machine);
+    let needed = bookings_needed(routed, task, machine)?;
     if table.most().saturating_sub(table.count()) < needed {
         return Err(Refusal::NoRoom(needed));
     }
@@ -77,7 +74,6 @@ fn book_task<R: Routes, T: Writable>(
 ) -> Result<Tick, Refusal>
     requires station { machine < station_count (net_of (R.over routes.now)) }
     requires placed { unplaced_predecessor (job_of job.now) (plan_of plan.old) task ≡ None }
-    requires routed { edge_without_route (job_of job.now) (R.route routes.now) (plan_of plan.old) task machine ≡ None }
     requires room { length (T.meaning table.old).bookings + bookings_needed (job_of job.now) (R.route routes.now) (plan_of plan.old) task machine ≤ (T.meaning table.old).most }
     requires blank { without_transfers (job_of job.now) task (plan_of plan.old) ≡ plan_of plan.old }
     ensures answer { started result (plan_of plan.new) (T.meaning table.new) ≡ book_on (job_of job.now) (net_of (R.over routes.now)) (R.route routes.now) (plan_of plan.old) (T.meaning table.old) task machine duration }

@@ -4,7 +4,7 @@ use Rattle.model.specs.Plans.{plan_of}
 use Rattle.planner.specs.Booked.{brought, brought_so}
 use Rattle.planner.specs.Edges.{incoming}
 use Rattle.planner.specs.Placing.{bring_all}
-use Rattle.planner.proofs.EdgesIn.{no_edge, finished, skips, edge_placed, edge_routed, rows_after, brings, refused, brings_on}
+use Rattle.planner.proofs.EdgesIn.{no_edge, finished, skips, edge_placed, rows_after, brings, refused, brings_on}
 use Rattle.planner.proofs.bringing.bring_all.Goals as goal
 use Rattle.planner.proofs.bringing.bring_all.Goals.{then-edge-task+in_ok-ready, else-edge-task}
 
@@ -28,27 +28,6 @@ bring-requires-clause-placed g c =
     let within : i < length J.edges = subst (λ l. i < length l) c.edges-edge-items.ensures c.loop-i-test.true in
     let at : get_or J.edges i no_edge ≡ e = sym (ap (λ l. get_or l i no_edge) c.edges-edge-items.ensures) in
     edge_placed J N ρ t m P0 A whole i P T ready u e within at c.if-edge-task.true c.requires.placed
-
-pub bring-requires-clause-routed : goal.bring-requires-clause-routed
-bring-requires-clause-routed g c =
-    let J = job_of c.args.job.now in
-    let N = net_of (g.R.Routes.over c.args.routes.now) in
-    let ρ = g.R.Routes.route c.args.routes.now in
-    let t = c.args.task in
-    let m = c.args.machine in
-    let P0 = plan_of c.args.plan.now in
-    let A = g.T.Askable.meaning c.args.table.now in
-    let whole = bring_all J N ρ m (incoming J t) (brought_so P0 A 0) in
-    let i = c.loop-i.i in
-    let P = plan_of c.loop-i.plan in
-    let T = g.T.Askable.meaning c.loop-i.table in
-    let ready = c.loop-i.ready in
-    let u = c.loop-i.invariant in
-    let es = c.edges-edge-items.result.now in
-    let e = get_or es i no_edge in
-    let within : i < length J.edges = subst (λ l. i < length l) c.edges-edge-items.ensures c.loop-i-test.true in
-    let at : get_or J.edges i no_edge ≡ e = sym (ap (λ l. get_or l i no_edge) c.edges-edge-items.ensures) in
-    edge_routed J N ρ t m P0 A whole i P T ready u e within at c.if-edge-task.true c.requires.routed
 
 pub returns-in_err-ready-clause-answer : goal.returns-in_err-ready-clause-answer
 returns-in_err-ready-clause-answer g c =
