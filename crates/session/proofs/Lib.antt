@@ -7,3 +7,4 @@ pub mod Incoming
 pub mod OneCall
 pub mod FollowedLines
 pub mod Opened
+pub mod ScriptPlans

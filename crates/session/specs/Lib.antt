@@ -13,3 +13,4 @@ pub mod Sessions
 pub mod Following
 pub mod Going
 pub mod Makings
+pub mod Certified

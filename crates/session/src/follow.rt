@@ -1,6 +1,7 @@
 //! Follows a script: gathers the setting, makes the job, the network and the routes, and carries out the other lines.
 ghost use Rattle.std.specs.Prelude.{◌≡◌};
 ghost use Rattle.model.specs.Data.{job_of, net_of};
+ghost use Rattle.session.specs.Certified.{EveryPlanOfAScript};
 ghost use Rattle.session.specs.Pairs.{pairs_of};
 ghost use Rattle.session.specs.Printing.{Adds};
 ghost use Rattle.session.specs.Sessions.{Gathers, gathering, over_routes, over_network, over_setting, over_gathering, printed};
@@ -114,7 +115,8 @@ impl<W: Write> Session<'_, '_, W> {
 /// Follows the script `text` from its first line to its end, or to a line that is not understood, and writes to `out`
 /// what it finds, a line for each thing done.
 pub fn follow_script<W: Write>(alloc: Global, text: &[u8], out: &mut W) -> io::Result<()>
-    ensures { Adds W.contents result out.old out.new (printed text.now) }
+    ensures printed { Adds W.contents result out.old out.new (printed text.now) }
+    ensures certified { EveryPlanOfAScript }
 {
     let mut session = Session::new(alloc, text, out);
     let followed = session.follow_lines();
