@@ -3,20 +3,21 @@ use Rattle.std.proofs.Common.{◌≡◌, ℕ, zero, suc, ◌+◌, ◌-◌, ◌<�
 use denote.Param.Members.{Mut}
 use Rattle.std.specs.Array.{IsFromFnResult, IsFromFnResultFrom}
 use Rattle.std.specs.Bool.{MatchBool}
-use Rattle.std.specs.Fn.{Called}
+use Rattle.std.specs.Fn.{Called, CalledAt}
 use Rattle.std.specs.Iterator.{Drains, YieldsThen}
 use Rattle.std.specs.Iterator.Adapters.{option_iter_steps, option_iter_item, option_iter_done, flatten_steps, flatten_source, flatten_front, flatten_back, flatten_done}
 use Rattle.std.specs.Slice.Iter.{iter_rest}
 use Rattle.std.specs.Option.{MatchOption, option_map, option_to_list}
 use Rattle.std.specs.declared.iter.Flatten.{Flatten}
 use Rattle.std.specs.declared.option.Iter.{OptionIter}
-use Rattle.std.specs.List.{FoldsTo, slice_get, list_any, last_or, flat_map}
+use Rattle.std.specs.List.{FoldsTo, slice_get, find, list_any, last_or, flat_map}
 use Rattle.std.proofs.lemmas.Bool.{cases_lt}
 use Rattle.std.proofs.lemmas.Fn.{fronts}
 use Rattle.std.proofs.lemmas.Iterator.{YieldsList, YieldsList-from_slice}
 use Rattle.std.proofs.lemmas.Iterator.Adapters.{YieldsList-from_flatten}
 use Rattle.std.proofs.lemmas.Iterator.Consumers.{YieldsList-end, YieldsList-from_shown}
-use Rattle.std.proofs.lemmas.Iterator.Search.{any_from_yields_List}
+use Rattle.std.proofs.lemmas.Iterator.Search.{any_from_yields_List, find_from_yields_List}
+use Rattle.std.proofs.lemmas.Option.{slice_get_within, get_or_from_slice_get}
 use Rattle.model.specs.Data.{NetData, job_of}
 use Rattle.model.specs.Plans.{plan_of}
 use Rattle.model.specs.declared.job.Job.{Job}
@@ -29,7 +30,7 @@ use Rattle.marker.specs.Verdicts.{any}
 use Rattle.marker.proofs.Fits.{leg_of_edge}
 
 -- the bookings of a row are the legs that it tells
-row_is : {A : Type 0} (row : List (Option A)) (xs : List A) → ((k : ℕ) → get_or row k None ≡ slice_get xs k) → flat_map option_to_list row ≡ xs
+pub row_is : {A : Type 0} (row : List (Option A)) (xs : List A) → ((k : ℕ) → get_or row k None ≡ slice_get xs k) → flat_map option_to_list row ≡ xs
 row_is [] [] tells = refl
 row_is [] (x ∷ xs) tells = absurd (some≢none (sym (tells 0)))
 row_is (None ∷ row) [] tells = row_is row [] (λ k. tells (suc k))
@@ -39,7 +40,7 @@ row_is (Some y ∷ row) (x ∷ xs) tells =
     let same : y ≡ x = cc (tells 0) in
     ap (λ z. z ∷ flat_map option_to_list row) same ∙ ap (λ zs. x ∷ zs) (row_is row xs (λ k. tells (suc k)))
 
-any_is : {A : Type 0} (p : A → Bool) (xs : List A) → list_any p xs ≡ any xs p
+pub any_is : {A : Type 0} (p : A → Bool) (xs : List A) → list_any p xs ≡ any xs p
 unfolding any
 any_is p [] = refl
 any_is p (x ∷ xs) = ap (λ b. p x || b) (any_is p xs)
@@ -79,12 +80,24 @@ module _ {A : Type 0} where
 abbrev pub Begins : {A : Type 0} → (Bor (Option A) → OptionIter A → Type 0) → Type 0
 Begins {A} becomes = (x : Bor (Option A)) (j : OptionIter A) → becomes x j → (option_iter_item j ≡ x.now) × (option_iter_done j ≡ false)
 
--- the bookings of a row, one by one, where the row tells these legs
+-- the bookings of a row, one by one
+module _ {A : Type 0} {s : Flatten (Iter (Option A)) (OptionIter A)} (becomes : Bor (Option A) → OptionIter A → Type 0) (row : List (Option A)) (over : iter_rest (flatten_source s) ≡ row) (front : flatten_front s ≡ None) (back : flatten_back s ≡ None) (more : flatten_done s ≡ false) where
+  YieldsList-from_bookings : Begins becomes → YieldsList (flatten_steps fronts becomes option_iter_steps) (λ y. y.now) s (flat_map option_to_list row)
+  YieldsList-from_bookings begins =
+      YieldsList-from_flatten becomes option_iter_steps (λ y. y.now) option_to_list (λ x j b. YieldsList-from_option j x.now (begins x j b).0 (begins x j b).1) (YieldsList-from_slice row over) front back more
+
+  -- `find`, by a closure that computes a test
+  pub find_booking : {F : Type 0} {g : Mut F (Bor (Bor A) × Unit {0}) Bool} (test : A → Bool) (u : Flatten (Iter (Option A)) (OptionIter A)) (f : F) (r : Option (Bor A))
+      → (ys : List (Bor A)) × (j : F) × YieldsThen (flatten_steps fronts becomes option_iter_steps) s ys r u × FoldsTo (λ p x q. CalledAt g p x false q) f ys j × MatchOption r (Unit {0}) (λ x. (h : F) × CalledAt g j x true h)
+      → Begins becomes → ((x : Bor A) (b : Bool) (q : F) → CalledAt g f x b q → (q ≡ f) × (b ≡ test x.now)) → option_map (λ y. y.now) r ≡ find test (flat_map option_to_list row)
+  find_booking test u f r ran begins computes = find_from_yields_List {v = λ (y : Bor A). y.now} test u f r ran (YieldsList-from_bookings begins) computes
+
+-- so also where the row tells these legs
 module _ {A : Type 0} {s : Flatten (Iter (Option A)) (OptionIter A)} (becomes : Bor (Option A) → OptionIter A → Type 0) (row : List (Option A)) (xs : List A) (tells : (k : ℕ) → get_or row k None ≡ slice_get xs k) (over : iter_rest (flatten_source s) ≡ row) (front : flatten_front s ≡ None) (back : flatten_back s ≡ None) (more : flatten_done s ≡ false) where
   YieldsList-from_row : Begins becomes → YieldsList (flatten_steps fronts becomes option_iter_steps) (λ y. y.now) s xs
   YieldsList-from_row begins =
       subst (YieldsList (flatten_steps fronts becomes option_iter_steps) (λ y. y.now) s) (row_is row xs tells)
-      (YieldsList-from_flatten becomes option_iter_steps (λ y. y.now) option_to_list (λ x j b. YieldsList-from_option j x.now (begins x j b).0 (begins x j b).1) (YieldsList-from_slice row over) front back more)
+      (YieldsList-from_bookings becomes row over front back more begins)
 
   -- `any`, by a closure that computes a test
   pub any_told : {F : Type 0} {g : Mut F (Bor A × Unit {0}) Bool} (test : A → Bool) (u : Flatten (Iter (Option A)) (OptionIter A)) (f : F) (r : Bool)
@@ -111,6 +124,9 @@ made_from {g = g} P f ys i (suc n) made gives k d above below =
 
 pub made_by_from_fn : {F B : Type 0} {g : Mut F (ℕ × Unit {0}) B} (P : ℕ → B → Type 0) (f : F) (ys : List B) (n : ℕ) → IsFromFnResult g f ys n → ((x : ℕ) (y : B) (q : F) → Called g f (x, tt) y q → (q ≡ f) × P x y) → (k : ℕ) (d : B) → k < n → P k (get_or ys k d)
 made_by_from_fn P f ys n made gives k d below = made_from P f ys 0 n made.each gives k d (omega arith) (omega arith)
+
+pub made_at : {F B : Type 0} {g : Mut F (ℕ × Unit {0}) B} (P : ℕ → B → Type 0) (f : F) (ys : List B) (n : ℕ) → IsFromFnResult g f ys n → ((x : ℕ) (y : B) (q : F) → Called g f (x, tt) y q → (q ≡ f) × P x y) → (k : ℕ) (y : B) → slice_get ys k ≡ Some y → P k y
+made_at P f ys n made gives k y e = subst (P k) (get_or_from_slice_get ys k y y e) (made_by_from_fn P f ys n made gives k y (omega (arith, slice_get_within ys k y e, made.long)))
 
 none_else : {A : Type 0} (o : Option A) → ((x : A) → o ≡ Some x → ⊥) → o ≡ None
 none_else None h = refl

@@ -5,6 +5,8 @@ mod legs;
 mod marking;
 mod rules;
 pub mod search;
+mod spans;
+mod tasks;
 pub mod verdict;
 
 pub use search::mark;

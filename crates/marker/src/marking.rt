@@ -1,17 +1,24 @@
 //! A plan that is marked, with all its legs.
 ghost use Rattle.marker.specs.Table.{Tells};
+ghost use Rattle.marker.specs.Spans.{SpansTell};
+ghost use Rattle.marker.specs.Tasks.{TasksTell};
 
 use crate::legs::LegTable;
+use crate::spans::SpanTable;
+use crate::tasks::TaskTable;
 use model::Booking;
-use model::plan::measures::task_booking;
 use routes::{RoutedPlan, Routes};
 
-/// A plan, what it is a plan of, and the legs of its transfers.
+/// A plan, what it is a plan of, the bookings of its tasks, the legs of its transfers, and their spans.
 #[derive(Drop)]
 pub(crate) struct Marking<'a, R: Routes> {
     pub(crate) marked: RoutedPlan<'a, R>,
+    tasks: TaskTable,
     table: LegTable,
+    pub(crate) spans: SpanTable,
+    ghost tasks_told: { TasksTell tasks marked },
     ghost told: { Tells table marked },
+    ghost spans_told: { SpansTell spans table },
 }
 
 impl<'a, R: Routes> Marking<'a, R> {
@@ -29,17 +36,22 @@ impl<'a, R: Routes> Marking<'a, R> {
     pub(crate) fn new(marked: RoutedPlan<'a, R>) -> Marking<'a, R>
         ensures { result.marked ≡ marked.entry }
     {
+        let tasks = TaskTable::new(&marked);
         let table = LegTable::new(&marked);
-        Marking { marked, table }
+        let spans = SpanTable::new(&table);
+        Marking {
+            marked,
+            tasks,
+            table,
+            spans,
+        }
     }
 
     /// The booking of a task on its machine.
     pub(crate) fn booking(&self, t: usize) -> Option<Booking>
         ensures { result ≡ on self.now (λ J N ρ P. option_map (task_booking J N t) (task_row P t)) }
     {
-        let row = self.marked.plan.task(t)?;
-        let network = self.marked.routes.network();
-        Some(task_booking(self.marked.job, network, t, row))
+        self.tasks.get(t)
     }
 
     /// The legs of edge `i`, hop by hop, and `None` after them.

@@ -1,5 +1,5 @@
 //! The rules, each as a test of the two numbers by which it is broken.
-ghost use Rattle.std.specs.Prelude.{◌≡◌};
+ghost use Rattle.std.specs.Prelude.{◌≡◌, ℕ, false, IsTrue};
 ghost use Rattle.marker.specs.Markings.{on};
 ghost use Rattle.marker.specs.Verdicts.{test, firsts, seconds};
 
@@ -30,6 +30,13 @@ impl<R: Routes> Marking<'_, R> {
             Rule::Machines => self.machines_test(x, y),
             Rule::Links => self.links_test(x, y),
         }
+    }
+
+    /// Whether a quick test shows that the rule is not broken with the first number `x`.
+    pub(crate) fn surely_holds(&self, rule: Rule, x: usize) -> bool
+        ensures { IsTrue result → (y : ℕ) → on self.now test rule x y ≡ false }
+    {
+        matches!(rule, Rule::Links) && self.overlaps_none_later(x)
     }
 
     /// How many first numbers are to be looked at.

@@ -16,6 +16,9 @@ impl<R: Routes> Marking<'_, R> {
     fn break_at(&self, rule: Rule, x: usize) -> Option<Verdict>
         ensures { result ≡ lowest (on self.now spot rule x) (on self.now seconds rule x) }
     {
+        if self.surely_holds(rule, x) {
+            return None;
+        }
         (0..self.second_count(rule, x))
             .find(|y| self.is_broken(rule, x, *y))
             .map(|y| Verdict::Broken(rule, x, y))

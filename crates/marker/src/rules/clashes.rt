@@ -1,5 +1,5 @@
 //! Rules H and I: no two tasks share a tick of a machine, and no two transfers one of a link.
-ghost use Rattle.std.specs.Prelude.{◌≡◌};
+ghost use Rattle.std.specs.Prelude.{◌≡◌, ℕ, false, IsTrue};
 ghost use Rattle.model.specs.Bookings.{collide};
 ghost use Rattle.routes.specs.Legs.{legs};
 ghost use Rattle.marker.specs.Markings.{on};
@@ -36,5 +36,12 @@ impl<R: Routes> Marking<'_, R> {
         ensures { result ≡ on self.now links_test i j }
     {
         i < j && self.any_leg(i, |a| self.meets(a, j))
+    }
+
+    /// Whether edge `i` overlaps no later edge on a link. Then it shares no tick with one.
+    pub(crate) fn overlaps_none_later(&self, i: usize) -> bool
+        ensures { IsTrue result → (j : ℕ) → on self.now links_test i j ≡ false }
+    {
+        !self.any_leg(i, |a| self.spans.is_overlapped(a, i))
     }
 }

@@ -1,12 +1,21 @@
-use Rattle.std.proofs.Common.{◌≡◌, true, false, ap, ◌∙◌, rules, tests}
+use Rattle.std.proofs.Common.{◌≡◌, true, false, refl, sym, ap, ◌∙◌, rules, tests}
 use Rattle.std.specs.Option.{option_map}
+use Rattle.std.proofs.lemmas.Bool.{cond-false}
 use Rattle.std.proofs.lemmas.Iterator.{first_from_Range}
 use Rattle.model.specs.Lowest.{lowest}
+use Rattle.model.proofs.Lowests.{lowest_all}
 use Rattle.marker.specs.declared.verdict.Verdict.TheVariants.{Broken}
 use Rattle.marker.specs.Markings.{on}
-use Rattle.marker.specs.Verdicts.{test, spot}
+use Rattle.marker.specs.Verdicts.{test, spot, seconds}
 use Rattle.marker.proofs.FirstAnswers.{lowest_where}
 use Rattle.marker.proofs.marking.Marking.break_at.Goals as goal
+
+pub returns-then-surely_holds : goal.returns-then-surely_holds
+returns-then-surely_holds g c =
+    let m = c.args.self.now in
+    let r = c.args.rule in
+    let x = c.args.x in
+    sym (lowest_all (on m spot r x) (on m seconds r x) (λ y l. cond-false (on m test r x y) _ _ (c.if-surely_holds.ensures refl y)))
 
 pub returns : goal.returns
 returns g c =
