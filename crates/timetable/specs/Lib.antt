@@ -6,6 +6,7 @@ pub mod Sound
 pub mod Parts
 pub mod Laws
 pub mod Cases
+pub mod Order
 pub mod Rolls
 pub mod Bits
 pub mod Marks

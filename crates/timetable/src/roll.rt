@@ -18,7 +18,7 @@ pub const HORIZON: Tick = LATEST_END;
 /// How many bookings a roll can hold at most.
 pub const MOST_BOOKINGS: usize = 4096;
 
-/// The bookings in the order they were made, and the same bookings by start, for looking.
+/// The bookings in the order they were made, and the same bookings by resource and start, for looking.
 /// The memory for all of them is got when the roll is made: how much that is says how many there may be.
 #[derive(Drop)]
 pub struct Roll {

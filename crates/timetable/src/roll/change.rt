@@ -1,6 +1,6 @@
 //! Writing a roll.
-ghost use Rattle.std.specs.Prelude.{◌≡◌, ◌<◌, vec_len, vec_capacity};
-ghost use Rattle.timetable.specs.Changes.{with_booking};
+ghost use Rattle.std.specs.Prelude.{◌≡◌, ◌<◌, true, vec_len, vec_capacity};
+ghost use Rattle.timetable.specs.Changes.{is_free_for, with_booking};
 ghost use Rattle.timetable.specs.Rolls.{roll_table};
 
 use crate::ask::is_free;
@@ -11,7 +11,8 @@ use model::{Booking, Refusal, check};
 impl Roll {
     /// Adds a booking as the newest, in the memory that is there.
     fn keep(&mut self, booking: Booking)
-        requires { vec_len self.old.bookings < vec_capacity self.old.bookings }
+        requires room { vec_len self.old.bookings < vec_capacity self.old.bookings }
+        requires free { is_free_for (roll_table self.old) booking ≡ true }
         ensures { roll_table self.new ≡ with_booking (roll_table self.old) booking }
     {
         self.bookings.push_reserved(booking);
