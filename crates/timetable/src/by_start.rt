@@ -81,8 +81,9 @@ impl ByStart {
 }
 
 /// Whether a booking is of a lower resource, or of the same and over by the start of the other.
+/// `|` and `&` test both sides with no branch, which is faster where a search calls this.
 fn precedes(a: &Booking, b: &Booking) -> bool
     ensures { result ≡ precedes a.now b.now }
 {
-    a.resource < b.resource || (a.resource == b.resource && a.end() <= u64::from(b.start))
+    (a.resource < b.resource) | ((a.resource == b.resource) & (a.end() <= u64::from(b.start)))
 }
