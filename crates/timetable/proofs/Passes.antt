@@ -23,12 +23,13 @@ apart_from_earlier a b before = grind (arith, nat_tests)
 apart_from_later : (a b : Booking) → precedes a b ≡ true → collide a b ≡ false
 apart_from_later a b before = grind (arith, nat_tests)
 
-apart_from_nothing : (a b : Booking) → a.length < 1 → collide a b ≡ false
-apart_from_nothing a b nothing = grind (arith, nat_tests)
-
 -- two that do not collide are in order
 turned : (a b : Booking) → 1 ≤ a.length → 1 ≤ b.length → collide a b ≡ false → precedes b a ≡ false → precedes a b ≡ true
 turned a b long long' apart not_before = grind (arith, nat_tests)
+
+-- and two that are not in order collide
+met : (a b : Booking) → 1 ≤ a.length → 1 ≤ b.length → precedes a b ≡ false → precedes b a ≡ false → collide a b ≡ true
+met a b long long' not_before not_after = grind (arith, nat_tests)
 
 not_before_itself : (a : Booking) → 1 ≤ a.length → precedes a a ≡ false
 not_before_itself a some = grind (arith, nat_tests)
@@ -85,25 +86,25 @@ module _ (bs : List Booking) (sorted : InOrder bs) (some : SomeTicks bs) where
       (cases_lt i k))
       (cases_lt k i)
 
-  -- where the booking at the place is not in the way, none is
-  pub clear_at_place : (w : Booking) (i : ℕ) (z : Booking) → IsPlace w bs i → (i < length bs → collide w (get_or bs i z) ≡ false) → list_any (collide w) bs ≡ false
-  clear_at_place w i z place clear =
-      let apart : (d : Booking) → i < length bs → collide w (get_or bs i d) ≡ false = λ d inside. rw (get_or_default bs i d z inside) (clear inside) in
+  -- a booking that precedes the one at its place collides with none
+  pub clear_at_place : (w : Booking) (i : ℕ) (z : Booking) → IsPlace w bs i → (i < length bs → precedes w (get_or bs i z) ≡ true) → list_any (collide w) bs ≡ false
+  clear_at_place w i z place first =
       list_any_none (collide w) bs (λ k d inside.
       ⊎_elim
-      (λ nothing. apart_from_nothing w (get_or bs k d) nothing)
-      (λ long. ⊎_elim
       (λ less. apart_from_earlier w (get_or bs k d) (place.0 k d (omega arith) less))
-      (λ not_less. ⊎_elim
-      (λ more.
-      let here = turned w (get_or bs i d) long (some i d (omega arith)) (apart d (omega arith)) (place.1 i d (omega arith) (omega arith)) in
-      apart_from_later w (get_or bs k d) (precedes_over w (get_or bs i d) (get_or bs k d) here (sorted i k d more inside)))
-      (λ not_more. let same : k ≡ i = omega arith in rw same (apart d (omega arith)))
-      (cases_lt i k))
+      (λ not_less.
+      let here : precedes w (get_or bs i d) ≡ true = rw (get_or_default bs i d z (omega arith)) (first (omega arith)) in
+      apart_from_later w (get_or bs k d) (⊎_elim
+      (λ more. precedes_over w (get_or bs i d) (get_or bs k d) here (sorted i k d more inside))
+      (λ not_more. let same : k ≡ i = omega arith in rw same here)
+      (cases_lt i k)))
       (cases_lt k i))
-      (cases_lt w.length 1))
 
-  -- where it is, its end has the next place
+  -- one that does not, collides with it
+  met_at_place : (w : Booking) (i : ℕ) (z : Booking) → 1 ≤ w.length → IsPlace w bs i → i < length bs → precedes w (get_or bs i z) ≡ false → collide w (get_or bs i z) ≡ true
+  met_at_place w i z long place within not_before = met w (get_or bs i z) long (some i z within) not_before (place.1 i z (omega arith) within)
+
+  -- and the end of that one has the next place
   moved_place : (r s d i : ℕ) (z : Booking) → i < length bs → IsPlace (span r s d) bs i → collide (span r s d) (get_or bs i z) ≡ true → IsPlace (span r (end (get_or bs i z)) d) bs (i + 1)
   moved_place r s d i z within place met =
       let b = get_or bs i z in (
@@ -122,7 +123,7 @@ pub record Passed (bs : List Booking) (r d from i s : ℕ) : Type 0 where
   pub not_before : (k : ℕ) → from ≤ k → k < s → list_any (collide (span r k d)) bs ≡ true
   pub place : IsPlace (span r s d) bs i
 
-module _ (bs : List Booking) (sorted : InOrder bs) (some : SomeTicks bs) (r d from i s : ℕ) (z : Booking) (within : i < length bs) (passed : Passed bs r d from i s) where
+module _ (bs : List Booking) (sorted : InOrder bs) (some : SomeTicks bs) (r d from i s : ℕ) (z : Booking) (long : 1 ≤ d) (within : i < length bs) (passed : Passed bs r d from i s) where
   -- up to the end of a booking that is in the way, no start is clear
   taken_up_to_end : collide (span r s d) (get_or bs i z) ≡ true → (k : ℕ) → from ≤ k → k < end (get_or bs i z) → list_any (collide (span r k d)) bs ≡ true
   taken_up_to_end met k late before =
@@ -132,9 +133,11 @@ module _ (bs : List Booking) (sorted : InOrder bs) (some : SomeTicks bs) (r d fr
       (cases_lt k s)
 
   -- and the start moves to its end
-  pub passed_moved : collide (span r s d) (get_or bs i z) ≡ true → Passed bs r d from (i + 1) (end (get_or bs i z))
-  passed_moved met = record {
-    late_enough = omega (arith, passed.late_enough, moves_on (get_or bs i z) r s d met);
-    not_before = taken_up_to_end met;
-    place = moved_place bs sorted some r s d i z within passed.place met;
-  }
+  pub passed_moved : precedes (span r s d) (get_or bs i z) ≡ false → Passed bs r d from (i + 1) (end (get_or bs i z))
+  passed_moved not_before =
+      let here = met_at_place bs sorted some (span r s d) i z long passed.place within not_before in
+      record {
+        late_enough = omega (arith, passed.late_enough, moves_on (get_or bs i z) r s d here);
+        not_before = taken_up_to_end here;
+        place = moved_place bs sorted some r s d i z within passed.place here;
+      }

@@ -53,6 +53,7 @@ impl ByStart {
     /// The wanted booking at its own start or the first later one at which no booking is in its way; none where that is no tick.
     /// Each booking that is in the way moves the start to its end, and the first that is not ends the search: those after it start later still.
     pub(crate) fn first_clear(&self, mut wanted: Booking) -> Option<Booking>
+        requires { 1 ≤ wanted.length }
         ensures moved { IfSome result (λ found. found ≡ span wanted.resource found.start wanted.length) }
         ensures late_enough { IfSome result (λ found. wanted.start ≤ found.start) }
         ensures clear { IfSome result (λ found. list_any (collide found) self.now.list.items ≡ false) }
@@ -61,7 +62,7 @@ impl ByStart {
     {
         let first = self.place(&wanted);
         for b in &self.list[first..] {
-            if !wanted.collides(b) {
+            if precedes(&wanted, b) {
                 return Some(wanted);
             }
             wanted.start = Tick::try_from(b.end()).ok()?;

@@ -3,6 +3,7 @@ use Rattle.std.specs.List.{list_any}
 use Rattle.std.proofs.lemmas.List.{get_or-take, get_or-drop, length-take-le, length-drop}
 use Rattle.model.specs.Bookings.{end, collide}
 use Rattle.model.specs.declared.booking.Booking.{Booking}
+use Rattle.timetable.specs.Order.{precedes}
 use Rattle.timetable.specs.Tables.{span}
 use Rattle.timetable.proofs.Passes.{IsPlace, Passed, clear_at_place, passed_moved}
 use Rattle.timetable.proofs.by_start.ByStart.first_clear.Goals as goal
@@ -44,19 +45,19 @@ loop-b-preserved c =
     let test : k < length (rest bs i) = subst (λ xs. k < length (rest xs i)) slice c.loop-b-test.true in
     let inside : i + k < length bs = omega (arith, rest_length bs i (omega arith)) in
     let item : get_or (rest c.deref.result.now i) k z ≡ get_or bs (i + k) z = ap (λ xs. get_or (rest xs i) k z) slice ∙ rest_at bs i k z inside in
-    let met = sym (ap (λ b. collide b (get_or bs (i + k) z)) same) ∙ sym (ap (collide c.loop-b.wanted) item) ∙ sym c.collides.ensures ∙ c.if-not-collides.false in
+    let not_before = sym (ap (λ b. precedes b (get_or bs (i + k) z)) same) ∙ sym (ap (precedes c.loop-b.wanted) item) ∙ sym c.precedes.ensures ∙ c.if-precedes.false in
     let value : c.end.result ≡ c.in_ok-wanted.field-0 = search rules in
     let to : end (get_or bs (i + k) z) ≡ c.in_ok-wanted.field-0 = sym (ap end item) ∙ sym c.end.ensures.value ∙ value in
     let next : i + k + 1 ≡ i + (k + 1) = omega arith in
-    let moved = passed_moved bs own.in_order own.some_ticks asked.resource asked.length asked.start (i + k) c.loop-b.wanted.start z inside c.loop-b.invariant.passed met in
+    let moved = passed_moved bs own.in_order own.some_ticks asked.resource asked.length asked.start (i + k) c.loop-b.wanted.start z c.requires inside c.loop-b.invariant.passed not_before in
     record {
       same = ap (λ (b : Booking). record b { start = c.in_ok-wanted.field-0 }) same;
       passed = subst (λ s. Passed bs asked.resource asked.length asked.start (i + (k + 1)) s) to (subst (λ j. Passed bs asked.resource asked.length asked.start j (end (get_or bs (i + k) z))) next moved);
     }
 
--- where the booking at the place is not in the way, or there is none
-pub returns-then-not-collides-clause-clear : goal.returns-then-not-collides-clause-clear
-returns-then-not-collides-clause-clear c =
+-- where the booking at the place is behind the wanted one, or there is none
+pub returns-then-precedes-clause-clear : goal.returns-then-precedes-clause-clear
+returns-then-precedes-clause-clear c =
     let own = c.args.self.now in
     let bs = own.list.items in
     let asked = c.args.wanted in
@@ -68,9 +69,9 @@ returns-then-not-collides-clause-clear c =
     let test : k < length (rest bs i) = subst (λ xs. k < length (rest xs i)) slice c.loop-b-test.true in
     let inside : i + k < length bs = omega (arith, rest_length bs i (omega arith)) in
     let item : get_or (rest c.deref.result.now i) k z ≡ get_or bs (i + k) z = ap (λ xs. get_or (rest xs i) k z) slice ∙ rest_at bs i k z inside in
-    let apart = sym (ap (λ b. collide b (get_or bs (i + k) z)) same) ∙ sym (ap (collide c.loop-b.wanted) item) ∙ sym c.collides.ensures ∙ c.if-not-collides.true in
+    let first = sym (ap (λ b. precedes b (get_or bs (i + k) z)) same) ∙ sym (ap (precedes c.loop-b.wanted) item) ∙ sym c.precedes.ensures ∙ c.if-precedes.true in
     ap (λ b. list_any (collide b) bs) same
-    ∙ clear_at_place bs own.in_order own.some_ticks (span asked.resource c.loop-b.wanted.start asked.length) (i + k) z c.loop-b.invariant.passed.place (λ _. apart)
+    ∙ clear_at_place bs own.in_order own.some_ticks (span asked.resource c.loop-b.wanted.start asked.length) (i + k) z c.loop-b.invariant.passed.place (λ _. first)
 
 pub returns-clause-clear : goal.returns-clause-clear
 returns-clause-clear c =
