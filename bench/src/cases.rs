@@ -43,12 +43,12 @@ fn work_lines(random: &mut Random, description: &Description, size: Size) -> Vec
         network: &network,
         routes: &routes,
     };
-    let mut lines = Vec::new();
+    let mut lists = Vec::new();
     if random.one_in(2) {
-        lines.extend(answers::lines(random, setting, size));
+        lists.push(answers::lines(random, setting, size));
     }
     if !random.one_in(3) {
-        lines.extend(calls::lines(random, setting, size));
+        lists.push(calls::lines(random, setting, size));
     }
-    lines
+    text::interleaved(random, lists)
 }

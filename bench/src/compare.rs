@@ -35,11 +35,11 @@ pub fn compare(seed: u64, count: usize) -> Result<Tally, Box<Difference>> {
         let script = cases::script(&mut random);
         let expected = reference::follow(&script);
         let found = proved.follow(&script);
-        if found != expected.as_bytes() {
+        if found != expected.text.as_bytes() {
             return Err(Box::new(Difference {
                 number,
                 proved: found.to_vec(),
-                reference: expected,
+                reference: expected.text,
                 script,
             }));
         }

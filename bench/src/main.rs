@@ -1,7 +1,7 @@
 //! Compares the proved library with an independent implementation of the same documents, on random scripts and in speed.
 //!
 //! `tuvshorad_bench SEED COUNT` compares on so many scripts, and then times both. It ends with status 1 where the two
-//! sides differ, or where something that a script can bring about never came up.
+//! sides differ, where something that a script can bring about never came up, or where something that none can did.
 
 mod cases;
 mod compare;
@@ -34,6 +34,11 @@ fn main() -> ExitCode {
         }
     };
     print!("{tally}");
+    let unforeseen = tally.unforeseen();
+    if !unforeseen.is_empty() {
+        println!("a script brought about: {}", unforeseen.join(", "));
+        return ExitCode::FAILURE;
+    }
     let missing = tally.missing();
     if !missing.is_empty() {
         println!(

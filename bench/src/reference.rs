@@ -23,5 +23,5 @@ pub use network::{Link, Network, Station, MAX_LINKS, MAX_STATIONS};
 pub use plan::{Placement, Plan, Setting};
 pub use routes::{Hop, Routes, MAX_HOPS};
 pub use search::{fewest_hops, least_slow};
-pub use session::follow;
-pub use timetable::MAX_BOOKINGS;
+pub use session::{follow, Followed};
+pub use timetable::{Form, MAX_BOOKINGS, MAX_WORDS};

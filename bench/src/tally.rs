@@ -1,10 +1,11 @@
 //! How often each refusal, each verdict and each answer came up.
 
+use crate::reference::{Followed, Form, MAX_WORDS};
 use std::collections::BTreeMap;
 use std::fmt;
 
-/// All that a script can bring about, as `kind` names it.
-const EXPECTED: [&str; 50] = [
+/// All that a script can bring about, as `kind`, `slip_kind` and `form_kind` name it.
+const EXPECTED: [&str; 67] = [
     "job refused 1",
     "job refused 4",
     "job refused 6",
@@ -16,6 +17,10 @@ const EXPECTED: [&str; 50] = [
     "made, routes by hops",
     "made, routes by slowness",
     "made, routes as written",
+    "over a roll",
+    "over a bit sheet",
+    "over a bit sheet of no words",
+    "over a bit sheet of 1024 words",
     "lawful",
     "broken A",
     "broken B",
@@ -33,7 +38,9 @@ const EXPECTED: [&str; 50] = [
     "place refused 14",
     "place refused 16",
     "place refused 17",
+    "place refused 18",
     "place not allowed",
+    "place not allowed once handed in",
     "try finish",
     "try refused 11",
     "try refused 12",
@@ -41,28 +48,44 @@ const EXPECTED: [&str; 50] = [
     "try refused 14",
     "try refused 16",
     "try refused 17",
+    "try refused 18",
     "try not allowed",
+    "try not allowed once handed in",
     "keep kept",
     "keep not allowed",
+    "keep not allowed once handed in",
     "strike task",
     "strike not allowed",
+    "strike not allowed once handed in",
     "back task",
     "back refused 15",
     "back not allowed",
+    "back not allowed once handed in",
     "fill length",
     "fill refused 19",
     "fill not allowed",
+    "fill not allowed once handed in",
+    "slip lawful, no task placed",
+    "slip lawful, some tasks placed",
+    "slip lawful, all tasks placed",
+    "hand in not allowed",
+    "hand in not allowed once handed in",
     "shown task",
     "shown edge",
     "line not understood",
 ];
 
-/// What no script can bring about, and why.
-const BEYOND_SCRIPTS: [&str; 3] = [
-    "refused 18: a task and a transfer each add at most 1,000,000 ticks to what was booked before, so 128 tasks and 224 \
-     transfers are done long before tick 2,000,000,000, where a roll ends (no script here asks for a bit sheet)",
-    "refused 20: one sheet, one plan and one timetable serve the whole script",
-    "strike refused 15: a sheet on trial has a step",
+/// What no script can bring about, by the kinds that hold these words, and why.
+const BEYOND_SCRIPTS: [(&str, &str); 3] = [
+    (
+        "refused 20",
+        "one sheet, one plan and one timetable serve the whole script",
+    ),
+    ("strike refused 15", "a sheet on trial has a step"),
+    (
+        "slip broken",
+        "every plan that a list of calls leads to is lawful",
+    ),
 ];
 
 /// What a line of output says, without its numbers other than a refusal's.
@@ -71,16 +94,43 @@ fn kind(line: &str) -> String {
         .split([' ', ':'])
         .filter(|word| !word.is_empty())
         .collect();
-    let first = words.first().copied().unwrap_or("");
+    let name = match words[..] {
+        ["hand", "in", ..] => "hand in",
+        [first, ..] => first,
+        [] => "",
+    };
     match words[..] {
         ["lawful", ..] => "lawful".to_owned(),
         ["broken", rule, ..] => format!("broken {rule}"),
         ["job", "of", .., "routes", how, origin] => format!("made, routes {how} {origin}"),
-        ["task" | "edge", ..] => format!("shown {first}"),
-        [.., "refused", number, _] => format!("{first} refused {number}"),
-        [.., "not", what] => format!("{first} not {what}"),
-        ["keep", .., what] | [_, .., what, _] => format!("{first} {what}"),
+        ["task" | "edge", ..] => format!("shown {name}"),
+        [.., "refused", number, _] => format!("{name} refused {number}"),
+        [.., "not", what] => format!("{name} not {what}"),
+        ["keep", .., what] | [_, .., what, _] => format!("{name} {what}"),
         _ => line.to_owned(),
+    }
+}
+
+/// What the slip of a sheet says.
+fn slip_kind(line: &str) -> String {
+    let words: Vec<&str> = line.split(' ').collect();
+    match words[..] {
+        ["lawful", "placed", "0", ..] => "slip lawful, no task placed".to_owned(),
+        ["lawful", "placed", placed, "of", tasks, ..] if placed == tasks => {
+            "slip lawful, all tasks placed".to_owned()
+        }
+        ["lawful", ..] => "slip lawful, some tasks placed".to_owned(),
+        _ => format!("slip {}", kind(line)),
+    }
+}
+
+/// The timetable that is drawn over.
+fn form_kind(form: Form) -> &'static str {
+    match form {
+        Form::Roll => "over a roll",
+        Form::Bits { words: 0 } => "over a bit sheet of no words",
+        Form::Bits { words: MAX_WORDS } => "over a bit sheet of 1024 words",
+        Form::Bits { .. } => "over a bit sheet",
     }
 }
 
@@ -91,17 +141,44 @@ pub struct Tally {
 }
 
 impl Tally {
-    pub fn count(&mut self, printed: &str) {
+    pub fn count(&mut self, followed: &Followed) {
         self.scripts += 1;
-        for line in printed.lines() {
-            *self.kinds.entry(kind(line)).or_default() += 1;
+        if let Some(form) = followed.form {
+            self.add(form_kind(form).to_owned());
         }
+        let slip_place = followed.before_slip.unwrap_or(usize::MAX);
+        for (place, line) in followed.text.lines().enumerate() {
+            let kind = kind(line);
+            self.add(if place == slip_place {
+                slip_kind(line)
+            } else if place > slip_place && kind.ends_with("not allowed") {
+                kind + " once handed in"
+            } else {
+                kind
+            });
+        }
+    }
+
+    fn add(&mut self, kind: String) {
+        *self.kinds.entry(kind).or_default() += 1;
     }
 
     /// What a script can bring about and none did.
     pub fn missing(&self) -> Vec<&'static str> {
         let came_up = |kind: &&str| self.kinds.contains_key(*kind);
         EXPECTED.into_iter().filter(|kind| !came_up(kind)).collect()
+    }
+
+    /// What no script can bring about and one did.
+    pub fn unforeseen(&self) -> Vec<&'static str> {
+        let words = BEYOND_SCRIPTS.into_iter().map(|(words, _)| words);
+        words.filter(|words| self.count_with(words) > 0).collect()
+    }
+
+    /// How often the kinds came up that hold these words.
+    fn count_with(&self, words: &str) -> usize {
+        let kinds = self.kinds.iter().filter(|(kind, _)| kind.contains(words));
+        kinds.map(|(_, count)| count).sum()
     }
 }
 
@@ -112,8 +189,8 @@ impl fmt::Display for Tally {
             writeln!(f, "{count:>10}  {kind}")?;
         }
         writeln!(f, "what no script can bring about:")?;
-        for why in BEYOND_SCRIPTS {
-            writeln!(f, "{:>10}  {why}", 0)?;
+        for (words, why) in BEYOND_SCRIPTS {
+            writeln!(f, "{:>10}  {words}: {why}", self.count_with(words))?;
         }
         Ok(())
     }

@@ -2,7 +2,9 @@
 
 use super::random::Random;
 use super::setting::Size;
-use crate::reference::{Drawing, Placement, Plan, Setting, MAX_EDGES, MAX_STATIONS, MAX_TASKS};
+use crate::reference::{
+    Drawing, Form, Placement, Plan, Setting, MAX_BOOKINGS, MAX_EDGES, MAX_STATIONS, MAX_TASKS,
+};
 
 /// Answers that are marked: one as it was drawn, and some that are changed.
 pub fn lines(random: &mut Random, setting: Setting<'_>, size: Size) -> Vec<String> {
@@ -24,7 +26,7 @@ pub fn lines(random: &mut Random, setting: Setting<'_>, size: Size) -> Vec<Strin
 
 /// A plan on machines at random, as far as they can be reached.
 fn drawn(random: &mut Random, setting: Setting<'_>) -> Plan {
-    let mut drawing = Drawing::new(setting, crate::reference::MAX_BOOKINGS);
+    let mut drawing = Drawing::new(setting, Form::Roll, MAX_BOOKINGS);
     let stations = setting.network.station_count();
     for task in 0..setting.job.task_count() {
         for _ in 0..3 {

@@ -14,8 +14,27 @@ pub fn lines(random: &mut Random, setting: Setting<'_>, size: Size) -> Vec<Strin
         Size::Largest if random.one_in(2) => calls(random, setting, 40),
         Size::Largest => vec!["fill".to_owned()],
     };
+    if random.one_in(3) {
+        hand_in(random, &mut lines);
+    }
     lines.push("show".to_owned());
     lines
+}
+
+/// Hands the sheet in, at times more than once: blank, at the end, after a try, or anywhere.
+fn hand_in(random: &mut Random, lines: &mut Vec<String>) {
+    for _ in 0..random.pick(&[1, 1, 1, 2, 3]) {
+        let after_tries: Vec<usize> = (1..=lines.len())
+            .filter(|&place| lines[place - 1].starts_with("try"))
+            .collect();
+        let place = match random.below(6) {
+            0 => 0,
+            1 | 2 => lines.len(),
+            3 if !after_tries.is_empty() => random.pick(&after_tries),
+            _ => random.below(lines.len() + 1),
+        };
+        lines.insert(place, "hand in".to_owned());
+    }
 }
 
 /// Calls of which many place the next task, and the others are any.

@@ -247,7 +247,7 @@ fn move_line(random: &mut Random, script: &mut Vec<u8>) {
 }
 
 fn add_line(random: &mut Random, script: &mut Vec<u8>) {
-    const LINES: [&[u8]; 22] = [
+    const LINES: [&[u8]; 36] = [
         b"task",
         b"task 1 1",
         b"task -1",
@@ -262,6 +262,16 @@ fn add_line(random: &mut Random, script: &mut Vec<u8>) {
         b"route 0",
         b"route 0 1 0",
         b"bookings 4097",
+        b"timetable",
+        b"timetable roll",
+        b"timetable roll 0",
+        b"timetable bits",
+        b"timetable bits 3",
+        b"timetable bits 1024",
+        b"timetable bits 1025",
+        b"timetable bits 4294967296",
+        b"timetable bits 1 1",
+        b"timetable 3",
         b"row 128 0 0",
         b"row 0 16 0",
         b"starts 224 0",
@@ -269,6 +279,10 @@ fn add_line(random: &mut Random, script: &mut Vec<u8>) {
         b"starts 0 1 1 1 1 1 1 1 1 1 1 1 1 1 1 1 1",
         b"place 0",
         b"back 1",
+        b"hand",
+        b"hand in 0",
+        b"hand over",
+        b"in",
         b"dance",
     ];
     let mut lines: Vec<&[u8]> = script.split(|&byte| byte == b'\n').collect();

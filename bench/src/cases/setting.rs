@@ -2,8 +2,8 @@
 
 use super::random::Random;
 use crate::reference::{
-    fewest_hops, least_slow, Edge, Hop, Link, Network, Routes, Station, MAX_EDGES, MAX_HOPS,
-    MAX_LINKS, MAX_STATIONS, MAX_TASKS,
+    fewest_hops, least_slow, Edge, Form, Hop, Link, Network, Routes, Station, MAX_EDGES, MAX_HOPS,
+    MAX_LINKS, MAX_STATIONS, MAX_TASKS, MAX_WORDS,
 };
 
 #[derive(Clone, Copy, Debug, PartialEq, Eq)]
@@ -57,6 +57,8 @@ pub struct Description {
     pub links: Vec<Link>,
     pub routes: RouteLines,
     pub room: Option<usize>,
+    /// The timetables that its lines name, of which the last counts.
+    pub forms: Vec<Form>,
 }
 
 impl Description {
@@ -69,13 +71,37 @@ impl Description {
             1 => RouteLines::Slowness,
             _ => RouteLines::Written(written(random, &stations, &links)),
         };
-        Description {
+        let mut description = Description {
             works: (0..tasks).map(|_| random.amount(1_000_000)).collect(),
             edges: edges(random, size, tasks),
             stations,
             links,
             routes,
             room: random.one_in(4).then(|| random.among(0..=tasks * 2)),
+            forms: forms(random),
+        };
+        if random.one_in(4) {
+            description.fit_to_words(random);
+        }
+        description
+    }
+
+    /// Lets tasks and transfers take about one word of a bit sheet, so that some end where a word does.
+    fn fit_to_words(&mut self, random: &mut Random) {
+        const TICKS: [u32; 10] = [1, 16, 32, 63, 64, 65, 127, 128, 129, 192];
+        for work in &mut self.works {
+            *work = random.pick(&TICKS);
+        }
+        for edge in &mut self.edges {
+            edge.volume = random.pick(&TICKS);
+        }
+        for station in &mut self.stations {
+            if let Station::Machine { speed } = station {
+                *speed = random.among(1..=2) as u32;
+            }
+        }
+        for link in &mut self.links {
+            link.speed = random.among(1..=2) as u32;
         }
     }
 
@@ -103,6 +129,7 @@ impl Description {
             links,
             routes: RouteLines::Hops,
             room: None,
+            forms: Vec::new(),
         }
     }
 
@@ -152,6 +179,7 @@ impl Description {
                 .iter()
                 .map(|room| format!("bookings {room}"))
                 .collect(),
+            self.forms.iter().map(form_line).collect(),
         ]
     }
 }
@@ -174,6 +202,33 @@ fn route_line(Written { from, to, hops }: &Written) -> String {
         .flat_map(|hop| [hop.link, hop.station])
         .collect();
     format!("route {from} {to}{}", listed(&hops))
+}
+
+fn form_line(form: &Form) -> String {
+    match form {
+        Form::Roll => "timetable roll".to_owned(),
+        Form::Bits { words } => format!("timetable bits {words}"),
+    }
+}
+
+/// The timetables that a script names: none, one, or several.
+fn forms(random: &mut Random) -> Vec<Form> {
+    let count = random.pick(&[0, 0, 1, 1, 1, 2, 3]);
+    (0..count).map(|_| form(random)).collect()
+}
+
+/// A timetable: often a bit sheet that is full soon.
+fn form(random: &mut Random) -> Form {
+    if random.one_in(4) {
+        return Form::Roll;
+    }
+    let words = match random.below(8) {
+        0 => 0,
+        1..=5 => random.among(1..=8),
+        6 => random.among(1..=MAX_WORDS),
+        _ => MAX_WORDS - random.below(2),
+    };
+    Form::Bits { words }
 }
 
 fn edges(random: &mut Random, size: Size, tasks: usize) -> Vec<Edge> {

@@ -1,6 +1,7 @@
 //! The calls on a sheet, and what each answers.
 
 use super::drawing::Drawing;
+use super::marker::Slip;
 use super::refusal::Refusal;
 use std::fmt;
 
@@ -12,6 +13,7 @@ pub enum Call {
     Strike,
     TakeBack,
     Fill,
+    HandIn,
 }
 
 pub enum Answer {
@@ -19,6 +21,7 @@ pub enum Answer {
     Kept,
     TookBack(usize),
     Length(u64),
+    Slip(Slip),
     NotAllowed,
     Refused(Refusal),
 }
@@ -30,23 +33,44 @@ impl fmt::Display for Answer {
             Answer::Kept => write!(f, "kept"),
             Answer::TookBack(task) => write!(f, "task {task}"),
             Answer::Length(length) => write!(f, "length {length}"),
+            Answer::Slip(slip) => write!(f, "{slip}"),
             Answer::NotAllowed => write!(f, "not allowed"),
             Answer::Refused(refusal) => write!(f, "refused {refusal}"),
         }
     }
 }
 
-/// A sheet, whose last step may be on trial.
+/// Which calls a sheet allows.
+#[derive(Clone, Copy, Debug, PartialEq, Eq)]
+enum State {
+    Drawn,
+    /// The last step is on trial.
+    OnTrial,
+    HandedIn,
+}
+
+impl State {
+    fn allows(self, call: Call) -> bool {
+        let ends_a_trial = matches!(call, Call::Keep | Call::Strike);
+        match self {
+            State::Drawn => !ends_a_trial,
+            State::OnTrial => ends_a_trial,
+            State::HandedIn => false,
+        }
+    }
+}
+
+/// A sheet, on which calls are carried out.
 pub struct Sheet<'a> {
     drawing: Drawing<'a>,
-    on_trial: bool,
+    state: State,
 }
 
 impl<'a> Sheet<'a> {
     pub fn new(drawing: Drawing<'a>) -> Sheet<'a> {
         Sheet {
             drawing,
-            on_trial: false,
+            state: State::Drawn,
         }
     }
 
@@ -54,8 +78,12 @@ impl<'a> Sheet<'a> {
         &self.drawing
     }
 
+    pub fn is_handed_in(&self) -> bool {
+        self.state == State::HandedIn
+    }
+
     pub fn carry_out(&mut self, call: Call) -> Answer {
-        if self.on_trial != matches!(call, Call::Keep | Call::Strike) {
+        if !self.state.allows(call) {
             return Answer::NotAllowed;
         }
         self.answer(call).unwrap_or_else(Answer::Refused)
@@ -66,19 +94,23 @@ impl<'a> Sheet<'a> {
             Call::Place { task, machine } => Answer::Finish(self.drawing.place(task, machine)?),
             Call::Try { task, machine } => {
                 let finish = self.drawing.place(task, machine)?;
-                self.on_trial = true;
+                self.state = State::OnTrial;
                 Answer::Finish(finish)
             }
             Call::Keep => {
-                self.on_trial = false;
+                self.state = State::Drawn;
                 Answer::Kept
             }
             Call::Strike => {
-                self.on_trial = false;
+                self.state = State::Drawn;
                 Answer::TookBack(self.drawing.take_back()?)
             }
             Call::TakeBack => Answer::TookBack(self.drawing.take_back()?),
             Call::Fill => Answer::Length(self.drawing.fill()?),
+            Call::HandIn => {
+                self.state = State::HandedIn;
+                Answer::Slip(self.drawing.slip()?)
+            }
         })
     }
 }

@@ -1,11 +1,14 @@
 //! Drawing: tasks are placed one by one, each booking at the earliest free start. docs/DRAWING.md.
 
-use super::marker;
+use super::marker::{self, Slip};
 use super::plan::{link_resource, Placement, Plan, Setting};
 use super::refusal::Refusal;
 use super::routes::Hop;
-use super::timetable::{Booking, Timetable};
+use super::timetable::{Booking, Form, Timetable};
 use std::cmp::Reverse;
+
+#[cfg(test)]
+mod tests;
 
 /// A plan that is drawn, with its timetable and the number of steps that its sheet counts.
 pub struct Drawing<'a> {
@@ -16,12 +19,12 @@ pub struct Drawing<'a> {
 }
 
 impl<'a> Drawing<'a> {
-    /// A blank plan, with room for so many bookings.
-    pub fn new(setting: Setting<'a>, room: usize) -> Drawing<'a> {
+    /// A blank plan, over a timetable with room for so many bookings.
+    pub fn new(setting: Setting<'a>, form: Form, room: usize) -> Drawing<'a> {
         Drawing {
             setting,
             plan: Plan::blank(),
-            timetable: Timetable::new(room),
+            timetable: Timetable::new(form, room),
             counted: 0,
         }
     }
@@ -61,6 +64,15 @@ impl<'a> Drawing<'a> {
         Ok(self.setting.plan_length(&self.plan))
     }
 
+    /// Marks the sheet, which has to belong to the plan.
+    pub fn slip(&self) -> Result<Slip, Refusal> {
+        if self.belongs() {
+            Ok(Slip::new(self.setting, &self.plan))
+        } else {
+            Err(Refusal::NotTogether)
+        }
+    }
+
     fn test_order(&self) -> Result<(), Refusal> {
         if self.is_in_order() {
             Ok(())
@@ -71,6 +83,15 @@ impl<'a> Drawing<'a> {
 
     /// Sheet, plan and timetable belong together.
     fn is_in_order(&self) -> bool {
+        self.belongs()
+            && marker::may_be_drawn_on(self.setting, &self.plan)
+            && self
+                .drawn_bookings()
+                .eq(self.timetable.bookings().iter().copied())
+    }
+
+    /// The sheet belongs to the plan.
+    fn belongs(&self) -> bool {
         let Setting { job, .. } = self.setting;
         let Plan {
             tasks,
@@ -91,10 +112,6 @@ impl<'a> Drawing<'a> {
                 .zip(is_step)
                 .all(|(row, is_step)| row.is_some() == is_step)
             && filled.all(|(edge, starts)| starts.is_empty() || is_step[edge.to])
-            && marker::may_be_drawn_on(self.setting, &self.plan)
-            && self
-                .drawn_bookings()
-                .eq(self.timetable.bookings().iter().copied())
     }
 
     /// The plan's bookings, step by step.

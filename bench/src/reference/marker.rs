@@ -4,6 +4,7 @@ use super::job::{MAX_EDGES, MAX_TASKS};
 use super::network::MAX_LINKS;
 use super::plan::{link_resource, Plan, Setting};
 use super::timetable::HORIZON;
+use std::fmt;
 use std::ops::Range;
 
 /// The letter of a rule and the two numbers by which it is broken.
@@ -14,11 +15,52 @@ pub struct Fault {
     pub second: usize,
 }
 
+/// What is said of a plan that was marked.
+#[derive(Clone, Copy, Debug, PartialEq, Eq)]
+pub enum Slip {
+    Lawful {
+        placed: usize,
+        tasks: usize,
+        length: u64,
+    },
+    Broken(Fault),
+}
+
+impl Slip {
+    pub fn new(setting: Setting<'_>, plan: &Plan) -> Slip {
+        mark(setting, plan).map_or_else(
+            || Slip::Lawful {
+                placed: plan.placed_count(setting.job),
+                tasks: setting.job.task_count(),
+                length: setting.plan_length(plan),
+            },
+            Slip::Broken,
+        )
+    }
+}
+
+impl fmt::Display for Slip {
+    fn fmt(&self, f: &mut fmt::Formatter<'_>) -> fmt::Result {
+        match self {
+            Slip::Lawful {
+                placed,
+                tasks,
+                length,
+            } => write!(f, "lawful placed {placed} of {tasks} length {length}"),
+            Slip::Broken(Fault {
+                rule,
+                first,
+                second,
+            }) => write!(f, "broken {rule} {first} {second}"),
+        }
+    }
+}
+
 /// How a rule is broken: the lowest first number, and of those the lowest second number.
 type Rule<'a> = fn(&Marking<'a>) -> Option<(usize, usize)>;
 
 /// The first rule that a plan breaks; none where it is lawful.
-pub fn mark(setting: Setting<'_>, plan: &Plan) -> Option<Fault> {
+fn mark(setting: Setting<'_>, plan: &Plan) -> Option<Fault> {
     let marking = Marking { setting, plan };
     Marking::RULES.iter().find_map(|&(rule, broken)| {
         broken(&marking).map(|(first, second)| Fault {

@@ -1,16 +1,16 @@
 //! A script is followed: what it describes is made, and what was found is printed.
 
-use super::calls::{Call, Sheet};
+use super::calls::{Answer, Call, Sheet};
 use super::drawing::Drawing;
 use super::job::{Edge, Job};
-use super::marker::{mark, Fault};
+use super::marker::Slip;
 use super::network::{Link, Network, Station};
 use super::plan::{Plan, Setting};
 use super::refusal::Refusal;
 use super::routes::{Hop, Routes};
 use super::search::{fewest_hops, least_slow};
 use super::statement::{read, words, NotUnderstood, RouteKind, SettingLine, Statement, WorkLine};
-use super::timetable::MAX_BOOKINGS;
+use super::timetable::{Form, MAX_BOOKINGS};
 use std::collections::HashMap;
 use std::fmt::Write;
 
@@ -51,6 +51,7 @@ struct Gathered {
     kind: RouteKind,
     written: HashMap<(usize, usize), Vec<Hop>>,
     room: usize,
+    form: Form,
 }
 
 impl Gathered {
@@ -63,6 +64,7 @@ impl Gathered {
             kind: RouteKind::Hops,
             written: HashMap::new(),
             room: MAX_BOOKINGS,
+            form: Form::Roll,
         }
     }
 
@@ -77,6 +79,7 @@ impl Gathered {
                 self.written.insert((from, to), hops);
             }
             SettingLine::Bookings(room) => self.room = room,
+            SettingLine::Timetable(form) => self.form = form,
         }
     }
 }
@@ -102,12 +105,22 @@ fn make_routes(
     }
 }
 
+/// What a script prints, and what the text does not tell of itself.
+#[derive(Default)]
+pub struct Followed {
+    pub text: String,
+    /// The timetable that is drawn over, if a job was made.
+    pub form: Option<Form>,
+    /// How many lines were printed before the sheet was handed in, if it was.
+    pub before_slip: Option<usize>,
+}
+
 /// What the lines after the setting work on.
 struct Work<'a> {
     setting: Setting<'a>,
     answer: Plan,
     sheet: Sheet<'a>,
-    out: &'a mut String,
+    out: &'a mut Followed,
 }
 
 // What is written to a `String` is always written.
@@ -121,60 +134,51 @@ impl Work<'_> {
             WorkLine::Answer => self.answer = Plan::blank(),
             WorkLine::Row { task, row } => self.answer.tasks[task] = Some(row),
             WorkLine::Starts { edge, starts } => self.answer.transfers[edge] = starts,
-            WorkLine::Mark => print_verdict(self.out, self.setting, &self.answer),
+            WorkLine::Mark => put_line!(self.out.text, "{}", Slip::new(self.setting, &self.answer)),
             WorkLine::Call(call) => self.call(call, bytes),
             WorkLine::Show => self.show(),
         }
     }
 
     fn call(&mut self, call: Call, bytes: &[u8]) {
-        let words: Vec<_> = words(bytes).map(String::from_utf8_lossy).collect();
-        put_line!(
-            self.out,
-            "{}: {}",
-            words.join(" "),
-            self.sheet.carry_out(call)
-        );
+        let was_handed_in = self.sheet.is_handed_in();
+        let answer = self.sheet.carry_out(call);
+        if self.sheet.is_handed_in() && !was_handed_in {
+            self.out.before_slip = Some(self.out.text.lines().count());
+        }
+        if let Answer::Slip(slip) = answer {
+            put_line!(self.out.text, "{slip}");
+        } else {
+            let words: Vec<_> = words(bytes).map(String::from_utf8_lossy).collect();
+            put_line!(self.out.text, "{}: {answer}", words.join(" "));
+        }
     }
 
     fn show(&mut self) {
         let plan = self.sheet.drawing().plan();
         for &task in &plan.steps {
-            for &edge in self.setting.job.incoming(task) {
-                for leg in self.setting.legs(plan, edge) {
-                    let link = leg.resource - 16;
-                    let (start, finish) = (leg.start, leg.finish());
-                    put_line!(
-                        self.out,
-                        "edge {edge} on link {link} from {start} to {finish}"
-                    );
-                }
-            }
-            if let Some(booking) = self.setting.task_booking(plan, task) {
-                let (start, finish) = (booking.start, booking.finish());
-                let machine = booking.resource;
-                put_line!(
-                    self.out,
-                    "task {task} on machine {machine} from {start} to {finish}"
-                );
-            }
+            print_step(&mut self.out.text, self.setting, plan, task);
         }
-        print_verdict(self.out, self.setting, plan);
+        put_line!(self.out.text, "{}", Slip::new(self.setting, plan));
     }
 }
 
-fn print_verdict(out: &mut String, setting: Setting<'_>, plan: &Plan) {
-    match mark(setting, plan) {
-        Some(Fault {
-            rule,
-            first,
-            second,
-        }) => put_line!(out, "broken {rule} {first} {second}"),
-        None => {
-            let (placed, tasks) = (plan.placed_count(setting.job), setting.job.task_count());
-            let length = setting.plan_length(plan);
-            put_line!(out, "lawful placed {placed} of {tasks} length {length}");
+/// A line for each booking of a step.
+fn print_step(out: &mut String, setting: Setting<'_>, plan: &Plan, task: usize) {
+    for &edge in setting.job.incoming(task) {
+        for leg in setting.legs(plan, edge) {
+            let link = leg.resource - 16;
+            let (start, finish) = (leg.start, leg.finish());
+            put_line!(out, "edge {edge} on link {link} from {start} to {finish}");
         }
+    }
+    if let Some(booking) = setting.task_booking(plan, task) {
+        let (start, finish) = (booking.start, booking.finish());
+        let machine = booking.resource;
+        put_line!(
+            out,
+            "task {task} on machine {machine} from {start} to {finish}"
+        );
     }
 }
 
@@ -185,12 +189,15 @@ struct Made {
     routes: Routes,
     kind: RouteKind,
     room: usize,
+    form: Form,
 }
 
 impl Made {
     fn new(gathered: Gathered) -> Result<Made, Stop> {
         let refused = |what| move |why| Stop::Refused { what, why };
-        let Gathered { kind, room, .. } = gathered;
+        let Gathered {
+            kind, room, form, ..
+        } = gathered;
         let job = Job::new(gathered.works, gathered.edges).map_err(refused("job"))?;
         let network =
             Network::new(gathered.stations, gathered.links).map_err(refused("network"))?;
@@ -201,6 +208,7 @@ impl Made {
             routes,
             kind,
             room,
+            form,
         })
     }
 
@@ -220,7 +228,7 @@ impl Made {
         );
     }
 
-    fn work<'a>(&'a self, out: &'a mut String) -> Work<'a> {
+    fn work<'a>(&'a self, out: &'a mut Followed) -> Work<'a> {
         let setting = Setting {
             job: &self.job,
             network: &self.network,
@@ -229,7 +237,7 @@ impl Made {
         Work {
             setting,
             answer: Plan::blank(),
-            sheet: Sheet::new(Drawing::new(setting, self.room)),
+            sheet: Sheet::new(Drawing::new(setting, self.form, self.room)),
             out,
         }
     }
@@ -251,11 +259,12 @@ fn gather<'t>(
 }
 
 /// Follows the lines as far as they are understood, and adds what is found to `out`.
-fn follow_lines(script: &[u8], out: &mut String) -> Result<(), Stop> {
+fn follow_lines(script: &[u8], out: &mut Followed) -> Result<(), Stop> {
     let mut lines = lines(script);
     let (gathered, first) = gather(lines.by_ref())?;
     let made = Made::new(gathered)?;
-    made.print(out);
+    made.print(&mut out.text);
+    out.form = Some(made.form);
     let mut work = made.work(out);
     for line in first.map(Ok).into_iter().chain(lines) {
         let line = line?;
@@ -268,12 +277,12 @@ fn follow_lines(script: &[u8], out: &mut String) -> Result<(), Stop> {
 }
 
 /// What a script prints.
-pub fn follow(script: &[u8]) -> String {
-    let mut out = String::new();
+pub fn follow(script: &[u8]) -> Followed {
+    let mut out = Followed::default();
     match follow_lines(script, &mut out) {
         Ok(()) => {}
-        Err(Stop::NotUnderstood { line }) => put_line!(out, "line {line} not understood"),
-        Err(Stop::Refused { what, why }) => put_line!(out, "{what} refused {why}"),
+        Err(Stop::NotUnderstood { line }) => put_line!(out.text, "line {line} not understood"),
+        Err(Stop::Refused { what, why }) => put_line!(out.text, "{what} refused {why}"),
     }
     out
 }

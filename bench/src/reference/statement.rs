@@ -5,7 +5,7 @@ use super::job::{Edge, MAX_EDGES, MAX_TASKS};
 use super::network::{Link, Station, MAX_STATIONS};
 use super::plan::Placement;
 use super::routes::{Hop, MAX_HOPS};
-use super::timetable::MAX_BOOKINGS;
+use super::timetable::{Form, MAX_BOOKINGS, MAX_WORDS};
 
 #[derive(Clone, Copy, Debug, PartialEq, Eq)]
 pub enum RouteKind {
@@ -14,7 +14,7 @@ pub enum RouteKind {
     Slowness,
 }
 
-/// A line that describes the job, the network, the routes or the size of the timetable.
+/// A line that describes the job, the network, the routes or the timetable.
 pub enum SettingLine {
     Task(u32),
     Edge(Edge),
@@ -27,6 +27,7 @@ pub enum SettingLine {
         hops: Vec<Hop>,
     },
     Bookings(usize),
+    Timetable(Form),
 }
 
 /// A line that comes after the setting.
@@ -112,6 +113,7 @@ fn read_setting(name: &[u8], words: &[&[u8]]) -> Option<Result<SettingLine, NotU
         b"routes",
         b"route",
         b"bookings",
+        b"timetable",
     ];
     is_setting
         .contains(&name)
@@ -146,6 +148,10 @@ fn read_setting_words(name: &[u8], words: &[&[u8]]) -> Result<SettingLine, NotUn
             hops: hops(rest)?,
         },
         (b"bookings", [room]) => SettingLine::Bookings(number_below(room, MAX_BOOKINGS + 1)?),
+        (b"timetable", [b"roll"]) => SettingLine::Timetable(Form::Roll),
+        (b"timetable", [b"bits", words]) => SettingLine::Timetable(Form::Bits {
+            words: number_below(words, MAX_WORDS + 1)?,
+        }),
         _ => return Err(NotUnderstood),
     })
 }
@@ -182,6 +188,7 @@ fn read_work(name: &[u8], words: &[&[u8]]) -> Result<WorkLine, NotUnderstood> {
         (b"strike", []) => Call::Strike,
         (b"back", []) => Call::TakeBack,
         (b"fill", []) => Call::Fill,
+        (b"hand", [b"in"]) => Call::HandIn,
         _ => return Err(NotUnderstood),
     };
     Ok(WorkLine::Call(call))

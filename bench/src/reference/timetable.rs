@@ -3,8 +3,31 @@
 use super::refusal::Refusal;
 
 pub const MAX_BOOKINGS: usize = 4096;
-/// No booking goes beyond it, and no span of a lawful plan.
+/// The most words of a bit sheet, for each resource.
+pub const MAX_WORDS: usize = 1024;
+/// No booking of a roll goes beyond it, and no span of a lawful plan.
 pub const HORIZON: u64 = 2_000_000_000;
+const RESOURCES: usize = 48;
+
+/// Which timetable is drawn over.
+#[derive(Clone, Copy, Debug, PartialEq, Eq)]
+pub enum Form {
+    Roll,
+    /// A bit sheet with so many words of 64 ticks for each resource.
+    Bits {
+        words: usize,
+    },
+}
+
+impl Form {
+    /// No booking goes beyond it.
+    fn horizon(self) -> u64 {
+        match self {
+            Form::Roll => HORIZON,
+            Form::Bits { words } => 64 * words as u64,
+        }
+    }
+}
 
 #[derive(Clone, Copy, Debug, PartialEq, Eq)]
 pub struct Booking {
@@ -27,6 +50,7 @@ impl Booking {
 
 #[derive(Clone, Debug)]
 pub struct Timetable {
+    horizon: u64,
     room: usize,
     /// In the order in which they were made.
     made: Vec<Booking>,
@@ -35,8 +59,9 @@ pub struct Timetable {
 
 impl Timetable {
     /// An empty timetable with room for so many bookings.
-    pub fn new(room: usize) -> Timetable {
+    pub fn new(form: Form, room: usize) -> Timetable {
         Timetable {
+            horizon: form.horizon(),
             room,
             made: Vec::with_capacity(room),
             by_start: Vec::with_capacity(room),
@@ -53,7 +78,7 @@ impl Timetable {
 
     /// The least start at or after `from` at which the resource is free for `length` ticks.
     pub fn earliest(&self, resource: usize, from: u64, length: u32) -> Option<u32> {
-        if length == 0 || resource >= 48 {
+        if length == 0 || resource >= RESOURCES {
             return None;
         }
         let length = u64::from(length);
@@ -69,7 +94,7 @@ impl Timetable {
                     start
                 }
             });
-        (start + length <= HORIZON).then_some(start as u32)
+        (start + length <= self.horizon).then_some(start as u32)
     }
 
     fn is_free(&self, booking: &Booking) -> bool {
