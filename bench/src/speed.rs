@@ -7,39 +7,64 @@ use std::fmt;
 use std::hint::black_box;
 use std::time::{Duration, Instant};
 
-/// How often each script is followed; the fastest counts.
-const ROUNDS: usize = 60;
+/// How often the times are taken anew.
+const REPEATS: usize = 5;
+
+/// How often each script is followed in a repeat; the fastest counts.
+const ROUNDS: usize = 12;
 
 /// The proved side is to take at most so many times as long.
 const MOST: f64 = 1.5;
 
-/// The time that a task takes on both sides.
-pub struct Times {
-    task: &'static str,
+/// The time of a line on both sides.
+#[derive(Clone, Copy)]
+struct Pair {
     proved: Duration,
     reference: Duration,
 }
 
-impl Times {
-    fn quotient(&self) -> f64 {
+impl Pair {
+    fn ratio(&self) -> f64 {
         self.proved.as_secs_f64() / self.reference.as_secs_f64()
+    }
+}
+
+/// The times that a task takes, in each of the repeats.
+pub struct Times {
+    task: &'static str,
+    repeats: [Pair; REPEATS],
+}
+
+impl Times {
+    /// The least time of each side.
+    fn least(&self) -> Pair {
+        let least = |time: fn(&Pair) -> Duration| self.repeats.iter().map(time).min();
+        Pair {
+            proved: least(|pair| pair.proved).unwrap_or(Duration::MAX),
+            reference: least(|pair| pair.reference).unwrap_or(Duration::MAX),
+        }
     }
 }
 
 impl fmt::Display for Times {
     fn fmt(&self, f: &mut fmt::Formatter<'_>) -> fmt::Result {
+        let least = self.least();
         write!(
             f,
-            "{}: proved {:.3} ms, independent {:.3} ms, quotient {:.2}",
+            "{}: proved {:.3} ms, Rust {:.3} ms, ratio proved/Rust {:.2}",
             self.task,
-            self.proved.as_secs_f64() * 1e3,
-            self.reference.as_secs_f64() * 1e3,
-            self.quotient()
+            least.proved.as_secs_f64() * 1e3,
+            least.reference.as_secs_f64() * 1e3,
+            least.ratio()
         )?;
-        if self.quotient() > MOST {
+        if least.ratio() > MOST {
             write!(f, ", which is more than {MOST}")?;
         }
-        Ok(())
+        write!(f, " (the {REPEATS} repeats:")?;
+        for pair in &self.repeats {
+            write!(f, " {:.2}", pair.ratio())?;
+        }
+        write!(f, ")")
     }
 }
 
@@ -79,19 +104,43 @@ impl Timed {
         }
     }
 
-    /// The times of one line: the script with the lines less the script without them.
+    /// The script with the lines that are timed, and without them.
+    fn scripts(&self) -> [Vec<u8>; 2] {
+        // A line that changes nothing else ends the setting, so that the job is made.
+        let end = b"\nanswer";
+        let lines = self.line.repeat(self.repeats as usize);
+        [
+            [&self.setting, &lines[..], end].concat(),
+            [&self.setting, &end[..]].concat(),
+        ]
+    }
+
+    /// The times of a line, taken anew so many times.
+    ///
+    /// # Panics
+    ///
+    /// If the sides print different texts.
     fn times(&self, proved: &mut Proved) -> Times {
-        // A line that changes nothing ends the setting, so that the job is made.
-        let without = [&self.setting, &b"\nanswer"[..]].concat();
-        let with = [&self.setting[..], &self.line.repeat(self.repeats as usize)].concat();
+        let scripts = self.scripts();
+        for script in &scripts {
+            assert!(proved.follow(script) == reference::follow(script).text.as_bytes());
+        }
+        Times {
+            task: self.task,
+            repeats: [(); REPEATS].map(|()| self.pair(&scripts, proved)),
+        }
+    }
+
+    /// The time of one line: the script with the lines less the script without them.
+    fn pair(&self, [with, without]: &[Vec<u8>; 2], proved: &mut Proved) -> Pair {
         let mut times = [Duration::MAX; 4];
         for _ in 0..ROUNDS {
             // The sides take turns, so that what else the machine does strikes both.
             let round = [
-                time(|| proved.follow(black_box(&with)).len()),
-                time(|| proved.follow(black_box(&without)).len()),
-                time(|| reference::follow(black_box(&with)).text.len()),
-                time(|| reference::follow(black_box(&without)).text.len()),
+                time(|| proved.follow(black_box(with)).len()),
+                time(|| proved.follow(black_box(without)).len()),
+                time(|| reference::follow(black_box(with)).text.len()),
+                time(|| reference::follow(black_box(without)).text.len()),
             ];
             for (fastest, time) in times.iter_mut().zip(round) {
                 *fastest = time.min(*fastest);
@@ -99,8 +148,7 @@ impl Timed {
         }
         let [proved_with, proved_without, reference_with, reference_without] = times;
         let of_one = |with: Duration, without| with.saturating_sub(without) / self.repeats;
-        Times {
-            task: self.task,
+        Pair {
             proved: of_one(proved_with, proved_without),
             reference: of_one(reference_with, reference_without),
         }

@@ -1,11 +1,11 @@
 //! How often each refusal, each verdict and each answer came up.
 
-use crate::reference::{Followed, Form, MAX_WORDS};
+use crate::reference::{Followed, Form, MAX_STATIONS, MAX_WORDS};
 use std::collections::BTreeMap;
 use std::fmt;
 
 /// All that a script can bring about, as `kind`, `slip_kind` and `form_kind` name it.
-const EXPECTED: [&str; 67] = [
+const EXPECTED: [&str; 70] = [
     "job refused 1",
     "job refused 4",
     "job refused 6",
@@ -21,6 +21,7 @@ const EXPECTED: [&str; 67] = [
     "over a bit sheet",
     "over a bit sheet of no words",
     "over a bit sheet of 1024 words",
+    "place up to the end of a bit sheet",
     "lawful",
     "broken A",
     "broken B",
@@ -38,7 +39,8 @@ const EXPECTED: [&str; 67] = [
     "place refused 14",
     "place refused 16",
     "place refused 17",
-    "place refused 18",
+    "place refused 18, a machine",
+    "place refused 18, a link",
     "place not allowed",
     "place not allowed once handed in",
     "try finish",
@@ -48,7 +50,8 @@ const EXPECTED: [&str; 67] = [
     "try refused 14",
     "try refused 16",
     "try refused 17",
-    "try refused 18",
+    "try refused 18, a machine",
+    "try refused 18, a link",
     "try not allowed",
     "try not allowed once handed in",
     "keep kept",
@@ -104,6 +107,13 @@ fn kind(line: &str) -> String {
         ["broken", rule, ..] => format!("broken {rule}"),
         ["job", "of", .., "routes", how, origin] => format!("made, routes {how} {origin}"),
         ["task" | "edge", ..] => format!("shown {name}"),
+        [.., "refused", "18", resource] => {
+            let is_link = resource
+                .parse()
+                .is_ok_and(|resource: usize| resource >= MAX_STATIONS);
+            let what = if is_link { "link" } else { "machine" };
+            format!("{name} refused 18, a {what}")
+        }
         [.., "refused", number, _] => format!("{name} refused {number}"),
         [.., "not", what] => format!("{name} not {what}"),
         ["keep", .., what] | [_, .., what, _] => format!("{name} {what}"),
@@ -145,6 +155,7 @@ impl Tally {
         self.scripts += 1;
         if let Some(form) = followed.form {
             self.add(form_kind(form).to_owned());
+            self.count_ends(&followed.text, form);
         }
         let slip_place = followed.before_slip.unwrap_or(usize::MAX);
         for (place, line) in followed.text.lines().enumerate() {
@@ -156,6 +167,15 @@ impl Tally {
             } else {
                 kind
             });
+        }
+    }
+
+    /// Counts the places whose task finishes where the timetable ends.
+    fn count_ends(&mut self, text: &str, form: Form) {
+        let end = format!(": finish {}", form.horizon());
+        let ends_there = |line: &&str| line.starts_with("place") && line.ends_with(&end);
+        for _ in text.lines().filter(ends_there) {
+            self.add("place up to the end of a bit sheet".to_owned());
         }
     }
 

@@ -86,7 +86,7 @@ impl Description {
         description
     }
 
-    /// Lets tasks and transfers take about one word of a bit sheet, so that some end where a word does.
+    /// Lets tasks and transfers take about one word of a bit sheet, so that some end where a word or the sheet does.
     fn fit_to_words(&mut self, random: &mut Random) {
         const TICKS: [u32; 10] = [1, 16, 32, 63, 64, 65, 127, 128, 129, 192];
         for work in &mut self.works {
@@ -102,6 +102,11 @@ impl Description {
         }
         for link in &mut self.links {
             link.speed = random.among(1..=2) as u32;
+        }
+        if random.one_in(2) {
+            self.forms.push(Form::Bits {
+                words: random.among(1..=6),
+            });
         }
     }
 

@@ -21,7 +21,7 @@ pub enum Form {
 
 impl Form {
     /// No booking goes beyond it.
-    fn horizon(self) -> u64 {
+    pub fn horizon(self) -> u64 {
         match self {
             Form::Roll => HORIZON,
             Form::Bits { words } => 64 * words as u64,
