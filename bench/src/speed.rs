@@ -88,7 +88,7 @@ impl Timed {
             task: "mark 128 tasks and 224 transfers of 15 hops",
             setting: setting.join("\n").into_bytes(),
             line: b"\nmark",
-            repeats: 4,
+            repeats: 16,
         }
     }
 
