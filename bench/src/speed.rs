@@ -16,14 +16,32 @@ const ROUNDS: usize = 12;
 /// The proved side is to take at most so many times as long.
 const MOST: f64 = 1.5;
 
-/// The time of a line on both sides.
-#[derive(Clone, Copy)]
+/// The least times to follow a script: on the proved side with the lines that are timed and without them, and on the
+/// other side with and without them.
+type Least = [Duration; 4];
+
+const NEVER: Least = [Duration::MAX; 4];
+
+/// The lesser of two times, for each of the four.
+fn lesser(one: Least, other: Least) -> Least {
+    std::array::from_fn(|place| one[place].min(other[place]))
+}
+
+/// The time of one line on both sides.
 struct Pair {
     proved: Duration,
     reference: Duration,
 }
 
 impl Pair {
+    /// The script with so many lines less the script without them.
+    fn new([proved_with, proved_without, with, without]: Least, lines: u32) -> Pair {
+        Pair {
+            proved: proved_with.saturating_sub(proved_without) / lines,
+            reference: with.saturating_sub(without) / lines,
+        }
+    }
+
     fn ratio(&self) -> f64 {
         self.proved.as_secs_f64() / self.reference.as_secs_f64()
     }
@@ -32,23 +50,14 @@ impl Pair {
 /// The times that a task takes, in each of the repeats.
 pub struct Times {
     task: &'static str,
-    repeats: [Pair; REPEATS],
-}
-
-impl Times {
-    /// The least time of each side.
-    fn least(&self) -> Pair {
-        let least = |time: fn(&Pair) -> Duration| self.repeats.iter().map(time).min();
-        Pair {
-            proved: least(|pair| pair.proved).unwrap_or(Duration::MAX),
-            reference: least(|pair| pair.reference).unwrap_or(Duration::MAX),
-        }
-    }
+    repeats: [Least; REPEATS],
+    lines: u32,
 }
 
 impl fmt::Display for Times {
     fn fmt(&self, f: &mut fmt::Formatter<'_>) -> fmt::Result {
-        let least = self.least();
+        let least = self.repeats.into_iter().fold(NEVER, lesser);
+        let least = Pair::new(least, self.lines);
         write!(
             f,
             "{}: proved {:.3} ms, Rust {:.3} ms, ratio proved/Rust {:.2}",
@@ -61,8 +70,8 @@ impl fmt::Display for Times {
             write!(f, ", which is more than {MOST}")?;
         }
         write!(f, " (the {REPEATS} repeats:")?;
-        for pair in &self.repeats {
-            write!(f, " {:.2}", pair.ratio())?;
+        for repeat in self.repeats {
+            write!(f, " {:.2}", Pair::new(repeat, self.lines).ratio())?;
         }
         write!(f, ")")
     }
@@ -73,7 +82,7 @@ struct Timed {
     task: &'static str,
     setting: Vec<u8>,
     line: &'static [u8],
-    repeats: u32,
+    lines: u32,
 }
 
 impl Timed {
@@ -88,7 +97,7 @@ impl Timed {
             task: "mark 128 tasks and 224 transfers of 15 hops",
             setting: setting.join("\n").into_bytes(),
             line: b"\nmark",
-            repeats: 16,
+            lines: 16,
         }
     }
 
@@ -100,7 +109,7 @@ impl Timed {
             task: "fill 128 tasks and 224 edges on 16 machines and 32 links",
             setting: description.lines().concat().join("\n").into_bytes(),
             line: b"\nfill",
-            repeats: 1,
+            lines: 1,
         }
     }
 
@@ -108,7 +117,7 @@ impl Timed {
     fn scripts(&self) -> [Vec<u8>; 2] {
         // A line that changes nothing else ends the setting, so that the job is made.
         let end = b"\nanswer";
-        let lines = self.line.repeat(self.repeats as usize);
+        let lines = self.line.repeat(self.lines as usize);
         [
             [&self.setting, &lines[..], end].concat(),
             [&self.setting, &end[..]].concat(),
@@ -127,31 +136,23 @@ impl Timed {
         }
         Times {
             task: self.task,
-            repeats: [(); REPEATS].map(|()| self.pair(&scripts, proved)),
+            repeats: [(); REPEATS].map(|()| Timed::least(&scripts, proved)),
+            lines: self.lines,
         }
     }
 
-    /// The time of one line: the script with the lines less the script without them.
-    fn pair(&self, [with, without]: &[Vec<u8>; 2], proved: &mut Proved) -> Pair {
-        let mut times = [Duration::MAX; 4];
-        for _ in 0..ROUNDS {
-            // The sides take turns, so that what else the machine does strikes both.
-            let round = [
+    /// The least times of some rounds.
+    fn least([with, without]: &[Vec<u8>; 2], proved: &mut Proved) -> Least {
+        // The sides take turns, so that what else the machine does strikes both.
+        let rounds = (0..ROUNDS).map(|_| {
+            [
                 time(|| proved.follow(black_box(with)).len()),
                 time(|| proved.follow(black_box(without)).len()),
                 time(|| reference::follow(black_box(with)).text.len()),
                 time(|| reference::follow(black_box(without)).text.len()),
-            ];
-            for (fastest, time) in times.iter_mut().zip(round) {
-                *fastest = time.min(*fastest);
-            }
-        }
-        let [proved_with, proved_without, reference_with, reference_without] = times;
-        let of_one = |with: Duration, without| with.saturating_sub(without) / self.repeats;
-        Pair {
-            proved: of_one(proved_with, proved_without),
-            reference: of_one(reference_with, reference_without),
-        }
+            ]
+        });
+        rounds.fold(NEVER, lesser)
     }
 }
 

@@ -223,7 +223,7 @@ pub fn of_text(random: &mut Random, script: &mut Vec<u8>) {
     if script.is_empty() {
         return;
     }
-    match random.below(5) {
+    match random.below(6) {
         0 => {
             script.remove(random.below(script.len()));
         }
@@ -247,7 +247,7 @@ fn move_line(random: &mut Random, script: &mut Vec<u8>) {
 }
 
 fn add_line(random: &mut Random, script: &mut Vec<u8>) {
-    const LINES: [&[u8]; 36] = [
+    const LINES: [&[u8]; 40] = [
         b"task",
         b"task 1 1",
         b"task -1",
@@ -271,6 +271,9 @@ fn add_line(random: &mut Random, script: &mut Vec<u8>) {
         b"timetable bits 1025",
         b"timetable bits 4294967296",
         b"timetable bits 1 1",
+        b"timetable bits -1",
+        b"timetable bits 0000000000000000000001",
+        b"timetable Bits 1",
         b"timetable 3",
         b"row 128 0 0",
         b"row 0 16 0",
@@ -282,6 +285,7 @@ fn add_line(random: &mut Random, script: &mut Vec<u8>) {
         b"hand",
         b"hand in 0",
         b"hand over",
+        b"hand In",
         b"in",
         b"dance",
     ];
