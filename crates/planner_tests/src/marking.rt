@@ -1,5 +1,5 @@
 //! Sheets that are handed in and marked.
-use crate::setting::{fork, line};
+use crate::setting::WORKED;
 use certificate::{Slip, mark};
 use marker::Rule;
 use model::{Job, Placement, Plan, Refusal};
@@ -30,7 +30,7 @@ fn slip<R: Routes>(sheet: HandedIn, routes: &R, job: &Job, plan: &Plan) -> Resul
 
 #[test]
 fn a_drawn_plan_is_given_a_lawful_slip(rt: HostRuntime) -> Result<(), Fail> {
-    let (routes, job) = (line(rt.alloc())?, fork(rt.alloc())?);
+    let (routes, job) = (WORKED.routes(rt.alloc())?, WORKED.job(rt.alloc())?);
     let (mut plan, mut table) = (Plan::new(), Roll::new(rt.alloc(), 8)?);
     let mut sheet = new_sheet(&mut plan, &table)?;
     draw(&mut sheet, &routes, &job, &mut plan, &mut table)?;
@@ -47,7 +47,7 @@ fn a_drawn_plan_is_given_a_lawful_slip(rt: HostRuntime) -> Result<(), Fail> {
 
 #[test]
 fn a_changed_start_breaks_a_rule(rt: HostRuntime) -> Result<(), Fail> {
-    let (routes, job) = (line(rt.alloc())?, fork(rt.alloc())?);
+    let (routes, job) = (WORKED.routes(rt.alloc())?, WORKED.job(rt.alloc())?);
     let (mut plan, mut table) = (Plan::new(), Roll::new(rt.alloc(), 8)?);
     let mut sheet = new_sheet(&mut plan, &table)?;
     draw(&mut sheet, &routes, &job, &mut plan, &mut table)?;
@@ -69,7 +69,7 @@ fn a_changed_start_breaks_a_rule(rt: HostRuntime) -> Result<(), Fail> {
 
 #[test]
 fn a_sheet_of_another_plan_comes_back(rt: HostRuntime) -> Result<(), Fail> {
-    let (routes, job) = (line(rt.alloc())?, fork(rt.alloc())?);
+    let (routes, job) = (WORKED.routes(rt.alloc())?, WORKED.job(rt.alloc())?);
     let (mut plan, mut table) = (Plan::new(), Roll::new(rt.alloc(), 8)?);
     let mut sheet = new_sheet(&mut plan, &table)?;
     draw(&mut sheet, &routes, &job, &mut plan, &mut table)?;
@@ -90,7 +90,7 @@ fn a_sheet_of_another_plan_comes_back(rt: HostRuntime) -> Result<(), Fail> {
 
 #[test]
 fn a_task_that_is_no_step_belongs_to_no_sheet(rt: HostRuntime) -> Result<(), Fail> {
-    let (routes, job) = (line(rt.alloc())?, fork(rt.alloc())?);
+    let (routes, job) = (WORKED.routes(rt.alloc())?, WORKED.job(rt.alloc())?);
     let (mut plan, table) = (Plan::new(), Roll::new(rt.alloc(), 8)?);
     let sheet = new_sheet(&mut plan, &table)?.hand_in();
     assert!(rt; sheet.belongs_to(&job, &plan));

@@ -5,8 +5,43 @@ use routes::{HopCount, SearchedRoutes};
 use std::alloc::Global;
 use std::test::Fail;
 
-fn machine(rate: u32) -> Station {
-    Station::Machine(Speed { rate })
+/// A network and a job, as lists of numbers.
+#[derive(Drop)]
+pub struct Setting<'a> {
+    /// The speed of each station, 0 for a switch.
+    pub speeds: &'a [u32],
+    /// Of each link the two stations that it joins, and its speed.
+    pub links: &'a [(usize, usize, u32)],
+    pub works: &'a [u32],
+    /// Of each edge the two tasks that it joins, and its volume.
+    pub edges: &'a [(usize, usize, u32)],
+}
+
+/// Machines of speeds 1, 2 and 1 in a line; link 0 has speed 1, link 1 has speed 2. Task 0 feeds tasks 1 and 2.
+///
+/// The lengths of task 0 on the three machines are 4, 2, 4, of task 1 they are 6, 3, 6, of task 2 they are 3, 2, 3;
+/// of transfer 0 on the two links they are 4, 2, of transfer 1 they are 6, 3.
+pub const WORKED: Setting = Setting {
+    speeds: &[1, 2, 1],
+    links: &[(0, 1, 1), (1, 2, 2)],
+    works: &[4, 6, 3],
+    edges: &[(0, 1, 4), (0, 2, 6)],
+};
+
+/// Two machines of speed 1 with nothing between them, and tasks that feed nothing.
+pub const APART: Setting = Setting {
+    speeds: &[1, 1],
+    links: &[],
+    works: &[3, 3, 5],
+    edges: &[],
+};
+
+fn station(rate: u32) -> Station {
+    if rate == 0 {
+        Station::Switch
+    } else {
+        Station::Machine(Speed { rate })
+    }
 }
 
 fn link(a: usize, b: usize, rate: u32) -> Link {
@@ -16,34 +51,32 @@ fn link(a: usize, b: usize, rate: u32) -> Link {
     }
 }
 
-fn edge(from: usize, to: usize, volume: u32) -> Edge {
-    Edge { from, to, volume }
-}
+impl Setting<'_> {
+    fn network(&self, heap: Global) -> Result<Network, Fail> {
+        let stations = self.speeds.iter().map(|rate| station(*rate)).collect(heap)?;
+        let links = self
+            .links
+            .iter()
+            .map(|(a, b, rate)| link(*a, *b, *rate))
+            .collect(heap)?;
+        Ok(Network::new(stations, links)?)
+    }
 
-/// Machines of speeds 1, 2 and 1; link 0 joins 0 and 1 at speed 1, link 1 joins 1 and 2 at speed 2.
-pub fn line(heap: Global) -> Result<SearchedRoutes<HopCount>, Fail> {
-    let stations = vec![in heap; machine(1), machine(2), machine(1)]?;
-    let links = vec![in heap; link(0, 1, 1), link(1, 2, 2)]?;
-    let network = Network::new(stations, links)?;
-    Ok(routes_by_hops(heap, network)?)
-}
+    pub fn routes(&self, heap: Global) -> Result<SearchedRoutes<HopCount>, Fail> {
+        Ok(routes_by_hops(heap, self.network(heap)?)?)
+    }
 
-/// Two machines of speed 1, with nothing between them.
-pub fn twins(heap: Global) -> Result<SearchedRoutes<HopCount>, Fail> {
-    let stations = vec![in heap; machine(1), machine(1)]?;
-    let network = Network::new(stations, Vec::new(heap))?;
-    Ok(routes_by_hops(heap, network)?)
-}
-
-/// Works 4, 6 and 3; edge 0 from task 0 to 1 of volume 4, edge 1 from task 0 to 2 of volume 6.
-pub fn fork(heap: Global) -> Result<Job, Fail> {
-    let works = vec![in heap; 4, 6, 3]?;
-    let edges = vec![in heap; edge(0, 1, 4), edge(0, 2, 6)]?;
-    Ok(Job::new(works, edges)?)
-}
-
-/// Works 3, 3 and 5, and no edges.
-pub fn apart(heap: Global) -> Result<Job, Fail> {
-    let works = vec![in heap; 3, 3, 5]?;
-    Ok(Job::new(works, Vec::new(heap))?)
+    pub fn job(&self, heap: Global) -> Result<Job, Fail> {
+        let works = self.works.to_vec(heap)?;
+        let edges = self
+            .edges
+            .iter()
+            .map(|(from, to, volume)| Edge {
+                from: *from,
+                to: *to,
+                volume: *volume,
+            })
+            .collect(heap)?;
+        Ok(Job::new(works, edges)?)
+    }
 }
