@@ -2,11 +2,10 @@
 use crate::ask::Ask::{Fill, Keep, Place, Strike, TakeBack, Try};
 use crate::ask::unanswered;
 use crate::case::{Drawn, check_drawn};
+use crate::desk::Desk;
 use crate::setting::WORKED;
 use crate::state::{BLANK, State};
 use certificate::Answer::{Finish, Kept, Length, NotAllowed, Refused, Task};
-use certificate::draw::draw;
-use model::Plan;
 use model::Refusal::{
     AlreadyPlaced, NoSuchTask, NotAMachine, NotInOrder, NothingToTakeBack, PredecessorUnplaced,
 };
@@ -154,13 +153,12 @@ fn lists_with_trials(rt: HostRuntime) -> Result<(), Fail> {
 #[test]
 fn a_timetable_with_bookings(rt: HostRuntime) -> Result<(), Fail> {
     let heap = rt.alloc();
-    let (routes, job) = (WORKED.routes(heap)?, WORKED.job(heap)?);
-    let (mut plan, mut table) = (Plan::new(), Roll::new(heap, 8)?);
-    ONE_STEP.write(&mut plan, &mut table)?;
+    let mut table = Roll::new(heap, 8)?;
+    let mut desk = Desk::with(heap, &WORKED, &ONE_STEP, &mut table)?;
     let mut asked = unanswered(heap, &[(Fill, NotAllowed)])?;
-    let drawn = draw(&routes, &job, &mut plan, &mut table, &mut asked);
+    let drawn = desk.draw(&mut table, &mut asked);
     assert_eq!(rt; drawn.map(|sheet| sheet.keep()).err(), Some(NotInOrder));
-    let is_left = ONE_STEP.is_held(&plan, &table);
+    let is_left = ONE_STEP.is_held(&desk.plan, &table);
     assert!(rt; is_left && asked.iter().all(|asked| asked.answer.is_none()));
     Ok(())
 }

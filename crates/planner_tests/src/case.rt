@@ -1,10 +1,10 @@
 //! Cases: calls on a sheet, with the answers and the state that are expected of them.
 use crate::ask::{Ask, Told, first_wrong, sheet_of, unanswered};
+use crate::desk::Desk;
 use crate::setting::Setting;
 use crate::state::State;
 use certificate::Answer;
-use certificate::draw::{draw, draw_on};
-use model::{Plan, Refusal};
+use model::Refusal;
 use std::alloc::Global;
 use std::process::Abort;
 use std::test::Fail;
@@ -28,15 +28,13 @@ impl Drawn<'_> {
         table: &mut T,
         cut: usize,
     ) -> Result<(), Fail> {
-        let (routes, job) = (self.setting.routes(heap)?, self.setting.job(heap)?);
-        let mut plan = Plan::new();
+        let mut desk = Desk::new(heap, self.setting)?;
         let mut asked = unanswered(heap, self.told)?;
         let cut = cut.min(asked.len());
         let (first, others) = asked.split_at_mut(cut);
-        let sheet = draw(&routes, &job, &mut plan, table, first)?;
-        let sheet = draw_on(sheet, &routes, &job, &mut plan, table, others).keep();
-        let is_left = self.left.is_held(&plan, table)
-            && sheet.hand_in().step_count() == self.left.steps.len();
+        let sheet = desk.draw(table, first)?;
+        let sheet = desk.draw_on(sheet, table, others);
+        let is_left = desk.is_left(&self.left, table, sheet);
         assert_eq!(rt;
             first_wrong(&asked, self.told),
             None,
@@ -91,14 +89,11 @@ impl Continued<'_> {
         heap: Global,
         table: &mut T,
     ) -> Result<(), Fail> {
-        let (routes, job) = (self.setting.routes(heap)?, self.setting.job(heap)?);
-        let mut plan = Plan::new();
-        self.state.write(&mut plan, table)?;
+        let mut desk = Desk::with(heap, self.setting, &self.state, table)?;
         let mut asked = unanswered(heap, self.told)?;
         let sheet = sheet_of(heap, self.state.steps.len(), false)?;
-        let sheet = draw_on(sheet, &routes, &job, &mut plan, table, &mut asked).keep();
-        let is_left = self.left.is_held(&plan, table)
-            && sheet.hand_in().step_count() == self.left.steps.len();
+        let sheet = desk.draw_on(sheet, table, &mut asked);
+        let is_left = desk.is_left(&self.left, table, sheet);
         assert_eq!(rt; first_wrong(&asked, self.told), None, "{}", self.name);
         assert!(rt; is_left, "{}", self.name);
         Ok(())
@@ -123,9 +118,7 @@ impl Refusals<'_> {
         heap: Global,
         table: &mut T,
     ) -> Result<(), Fail> {
-        let (routes, job) = (self.setting.routes(heap)?, self.setting.job(heap)?);
-        let mut plan = Plan::new();
-        self.state.write(&mut plan, table)?;
+        let mut desk = Desk::with(heap, self.setting, &self.state, table)?;
         let count = self.state.steps.len();
         for (ask, refusal) in self.refused {
             let told = [
@@ -134,8 +127,8 @@ impl Refusals<'_> {
             ];
             let mut asked = unanswered(heap, &told)?;
             let sheet = sheet_of(heap, count, false)?;
-            let sheet = draw_on(sheet, &routes, &job, &mut plan, table, &mut asked).keep();
-            let is_left = self.state.is_held(&plan, table) && sheet.hand_in().step_count() == count;
+            let sheet = desk.draw_on(sheet, table, &mut asked);
+            let is_left = desk.is_left(&self.state, table, sheet);
             assert_eq!(rt;
                 first_wrong(&asked, &told),
                 None,

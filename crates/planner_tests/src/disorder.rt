@@ -1,11 +1,10 @@
 //! States that are not in order: every call is refused by 20, whatever it asks for, and changes nothing.
 use crate::ask::Ask::{Fill, Keep, Place, Strike, TakeBack, Try};
 use crate::ask::{Told, first_wrong, sheet_of, unanswered};
+use crate::desk::Desk;
 use crate::setting::Setting;
 use crate::state::State;
 use certificate::Answer::{NotAllowed, Refused};
-use certificate::draw::draw_on;
-use model::Plan;
 use model::Refusal::NotInOrder;
 use std::alloc::Global;
 use std::process::Abort;
@@ -49,9 +48,7 @@ impl Disorder<'_> {
         table: &mut T,
         is_on_trial: bool,
     ) -> Result<(), Fail> {
-        let (routes, job) = (self.setting.routes(heap)?, self.setting.job(heap)?);
-        let mut plan = Plan::new();
-        self.state.write(&mut plan, table)?;
+        let mut desk = Desk::with(heap, self.setting, &self.state, table)?;
         let told = if is_on_trial {
             REFUSED_ON_TRIAL
         } else {
@@ -59,17 +56,11 @@ impl Disorder<'_> {
         };
         let mut asked = unanswered(heap, told)?;
         let sheet = sheet_of(heap, self.count, is_on_trial)?;
-        let sheet = draw_on(sheet, &routes, &job, &mut plan, table, &mut asked).keep();
-        let sheet = sheet.hand_in();
-        let is_left = self.state.is_held(&plan, table) && sheet.step_count() == self.count;
+        let sheet = desk.draw_on(sheet, table, &mut asked).hand_in();
+        let belongs = sheet.belongs_to(&desk.job, &desk.plan);
+        let is_left = self.state.is_held(&desk.plan, table) && sheet.step_count() == self.count;
         assert_eq!(rt; first_wrong(&asked, told), None, "{}", self.name);
-        assert!(rt; is_left, "{}", self.name);
-        assert_eq!(rt;
-            sheet.belongs_to(&job, &plan),
-            self.belongs,
-            "{}",
-            self.name
-        );
+        assert!(rt; is_left && belongs == self.belongs, "{}", self.name);
         Ok(())
     }
 }

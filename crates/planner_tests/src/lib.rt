@@ -8,6 +8,8 @@ mod calls;
 #[cfg(test)]
 mod case;
 #[cfg(test)]
+mod desk;
+#[cfg(test)]
 mod disorder;
 #[cfg(test)]
 mod filling;

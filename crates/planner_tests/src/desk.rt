@@ -1,0 +1,66 @@
+//! A setting with a plan, to draw on.
+use crate::setting::Setting;
+use crate::state::State;
+use certificate::draw::{draw, draw_on};
+use certificate::{Asked, Sheet};
+use model::{Job, Plan, Refusal};
+use planner::sheet::Drawing;
+use routes::{HopCount, SearchedRoutes};
+use std::alloc::Global;
+use std::test::Fail;
+use timetable::Writable;
+
+/// Routes, a job and a plan. Its calls have no clauses, so that the proof of a test need not carry what they say.
+#[derive(Drop)]
+pub struct Desk {
+    pub routes: SearchedRoutes<HopCount>,
+    pub job: Job,
+    pub plan: Plan,
+}
+
+impl Desk {
+    /// A setting with a blank plan.
+    pub fn new(heap: Global, setting: &Setting) -> Result<Desk, Fail> {
+        Ok(Desk {
+            routes: setting.routes(heap)?,
+            job: setting.job(heap)?,
+            plan: Plan::new(),
+        })
+    }
+
+    /// A setting with the plan of a state, which is booked in a timetable with no bookings.
+    pub fn with<T: Writable>(
+        heap: Global,
+        setting: &Setting,
+        state: &State,
+        table: &mut T,
+    ) -> Result<Desk, Fail> {
+        let mut desk = Desk::new(heap, setting)?;
+        state.write(&mut desk.plan, table)?;
+        Ok(desk)
+    }
+
+    /// Makes the calls on a new sheet.
+    pub fn draw<T: Writable>(
+        &mut self,
+        table: &mut T,
+        asked: &mut [Asked],
+    ) -> Result<Sheet, Refusal> {
+        draw(&self.routes, &self.job, &mut self.plan, table, asked)
+    }
+
+    /// Makes the calls on a sheet.
+    pub fn draw_on<T: Writable>(
+        &mut self,
+        sheet: Sheet,
+        table: &mut T,
+        asked: &mut [Asked],
+    ) -> Drawing {
+        draw_on(sheet, &self.routes, &self.job, &mut self.plan, table, asked).keep()
+    }
+
+    /// Whether plan and timetable hold a state, and the sheet counts its steps.
+    pub fn is_left<T: Writable>(&self, state: &State, table: &T, sheet: Drawing) -> bool {
+        state.is_held(&self.plan, table) && sheet.hand_in().step_count() == state.steps.len()
+    }
+}
