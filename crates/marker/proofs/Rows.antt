@@ -70,8 +70,8 @@ module _ {A : Type 0} where
   option_went true d o u x h e = absurd (some≢none e)
   option_went false d o u x h e = ap option_to_list (sym e) ∙ ap (λ z. x.now ∷ cond z [] (option_to_list u)) (sym h)
 
-  YieldsList-from_option : (s : OptionIter A) (o : Option A) → option_iter_item s ≡ o → option_iter_done s ≡ false → YieldsList option_iter_steps (λ y. y.now) s (option_to_list o)
-  YieldsList-from_option s o at more =
+  yields_list_from_option : (s : OptionIter A) (o : Option A) → option_iter_item s ≡ o → option_iter_done s ≡ false → YieldsList option_iter_steps (λ y. y.now) s (option_to_list o)
+  yields_list_from_option s o at more =
       let road = YieldsList-from_shown option_iter_steps (λ y. y.now) option_rest (λ t u e. option_ended (option_iter_done t) (option_iter_item t) e.1) (λ t x u e. option_went (option_iter_done t) (option_iter_done u) (option_iter_item t) (option_iter_item u) x e.0 e.1) s in
       let rest : option_rest s ≡ option_to_list o = ap (λ b. cond b [] (option_to_list (option_iter_item s))) more ∙ ap option_to_list at in
       subst (YieldsList option_iter_steps (λ y. y.now) s) rest road
@@ -82,34 +82,34 @@ Begins {A} becomes = (x : Bor (Option A)) (j : OptionIter A) → becomes x j →
 
 -- the bookings of a row, one by one
 module _ {A : Type 0} {s : Flatten (Iter (Option A)) (OptionIter A)} (becomes : Bor (Option A) → OptionIter A → Type 0) (row : List (Option A)) (over : iter_rest (flatten_source s) ≡ row) (front : flatten_front s ≡ None) (back : flatten_back s ≡ None) (more : flatten_done s ≡ false) where
-  YieldsList-from_bookings : Begins becomes → YieldsList (flatten_steps fronts becomes option_iter_steps) (λ y. y.now) s (flat_map option_to_list row)
-  YieldsList-from_bookings begins =
-      YieldsList-from_flatten becomes option_iter_steps (λ y. y.now) option_to_list (λ x j b. YieldsList-from_option j x.now (begins x j b).0 (begins x j b).1) (YieldsList-from_slice row over) front back more
+  yields_list_from_bookings : Begins becomes → YieldsList (flatten_steps fronts becomes option_iter_steps) (λ y. y.now) s (flat_map option_to_list row)
+  yields_list_from_bookings begins =
+      YieldsList-from_flatten becomes option_iter_steps (λ y. y.now) option_to_list (λ x j b. yields_list_from_option j x.now (begins x j b).0 (begins x j b).1) (YieldsList-from_slice row over) front back more
 
   -- `find`, by a closure that computes a test
   pub find_booking : {F : Type 0} {g : Mut F (Bor (Bor A) × Unit {0}) Bool} (test : A → Bool) (u : Flatten (Iter (Option A)) (OptionIter A)) (f : F) (r : Option (Bor A))
       → (ys : List (Bor A)) × (j : F) × YieldsThen (flatten_steps fronts becomes option_iter_steps) s ys r u × FoldsTo (λ p x q. CalledAt g p x false q) f ys j × MatchOption r (Unit {0}) (λ x. (h : F) × CalledAt g j x true h)
       → Begins becomes → ((x : Bor A) (b : Bool) (q : F) → CalledAt g f x b q → (q ≡ f) × (b ≡ test x.now)) → option_map (λ y. y.now) r ≡ find test (flat_map option_to_list row)
-  find_booking test u f r ran begins computes = find_from_yields_List {v = λ (y : Bor A). y.now} test u f r ran (YieldsList-from_bookings begins) computes
+  find_booking test u f r ran begins computes = find_from_yields_List {v = λ (y : Bor A). y.now} test u f r ran (yields_list_from_bookings begins) computes
 
 -- so also where the row tells these legs
 module _ {A : Type 0} {s : Flatten (Iter (Option A)) (OptionIter A)} (becomes : Bor (Option A) → OptionIter A → Type 0) (row : List (Option A)) (xs : List A) (tells : (k : ℕ) → get_or row k None ≡ slice_get xs k) (over : iter_rest (flatten_source s) ≡ row) (front : flatten_front s ≡ None) (back : flatten_back s ≡ None) (more : flatten_done s ≡ false) where
-  YieldsList-from_row : Begins becomes → YieldsList (flatten_steps fronts becomes option_iter_steps) (λ y. y.now) s xs
-  YieldsList-from_row begins =
+  yields_list_from_row : Begins becomes → YieldsList (flatten_steps fronts becomes option_iter_steps) (λ y. y.now) s xs
+  yields_list_from_row begins =
       subst (YieldsList (flatten_steps fronts becomes option_iter_steps) (λ y. y.now) s) (row_is row xs tells)
-      (YieldsList-from_bookings becomes row over front back more begins)
+      (yields_list_from_bookings becomes row over front back more begins)
 
   -- `any`, by a closure that computes a test
   pub any_told : {F : Type 0} {g : Mut F (Bor A × Unit {0}) Bool} (test : A → Bool) (u : Flatten (Iter (Option A)) (OptionIter A)) (f : F) (r : Bool)
       → (ys : List (Bor A)) × (o : Option (Bor A)) × (j : F) × YieldsThen (flatten_steps fronts becomes option_iter_steps) s ys o u × FoldsTo (λ p x q. Called g p (x, tt) false q) f ys j × MatchOption o (r ≡ false) (λ x. (r ≡ true) × ((h : F) × Called g j (x, tt) true h))
       → Begins becomes → ((x : Bor A) (b : Bool) (q : F) → Called g f (x, tt) b q → (q ≡ f) × (b ≡ test x.now)) → r ≡ any xs test
-  any_told test u f r ran begins computes = any_from_yields_List {v = λ (y : Bor A). y.now} test u f r ran (YieldsList-from_row begins) computes ∙ any_is test xs
+  any_told test u f r ran begins computes = any_from_yields_List {v = λ (y : Bor A). y.now} test u f r ran (yields_list_from_row begins) computes ∙ any_is test xs
 
   pub last_told : (r : Option (Bor A)) → (ys : List (Bor A)) × Drains (flatten_steps fronts becomes option_iter_steps) s ys × (r ≡ last_or None ys) → Begins becomes → option_map (λ y. y.now) r ≡ last xs
   last_told r ran begins =
       let end = ran.1.1 in
       ap (option_map (λ y. y.now)) ran.2 ∙ last_of (λ y. y.now) ran.0
-      ∙ ap last (YieldsList-end (YieldsList-from_row begins) ran.0 end.0 end.1 None ran.1.0 refl end.2).0
+      ∙ ap last (YieldsList-end (yields_list_from_row begins) ran.0 end.0 end.1 None ran.1.0 refl end.2).0
 
 -- what `from_fn` made has at each place what its closure gives there
 made_from : {F B : Type 0} {g : Mut F (ℕ × Unit {0}) B} (P : ℕ → B → Type 0) (f : F) (ys : List B) (i n : ℕ) → IsFromFnResultFrom g f ys i n → ((x : ℕ) (y : B) (q : F) → Called g f (x, tt) y q → (q ≡ f) × P x y) → (k : ℕ) (d : B) → i ≤ k → k < i + n → P k (get_or ys k d)

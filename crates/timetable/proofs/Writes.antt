@@ -31,18 +31,18 @@ module _ (word m low high : ℕ) (in_word : high ≤ 64) (order : low < high) (b
 
 -- a bit after a word is written
 
-bit_of-set_in : (words : List ℕ) (k y t : ℕ) → k < length words → t / 64 ≡ k → bit_of (set words k y) t ≡ bit_at y (t % 64)
+bit_of_set_in : (words : List ℕ) (k y t : ℕ) → k < length words → t / 64 ≡ k → bit_of (set words k y) t ≡ bit_at y (t % 64)
 unfolding bit_of
-bit_of-set_in words k y t within here =
+bit_of_set_in words k y t within here =
     ap (λ j. bit_at (get_or (set words k y) j 0) (t % 64)) here ∙ ap (λ w. bit_at w (t % 64)) (get_or-set_same words k y 0 within)
 
-bit_of-set_out : (words : List ℕ) (k y t : ℕ) → t / 64 ≢ k → bit_of (set words k y) t ≡ bit_of words t
+bit_of_set_out : (words : List ℕ) (k y t : ℕ) → t / 64 ≢ k → bit_of (set words k y) t ≡ bit_of words t
 unfolding bit_of
-bit_of-set_out words k y t away = ap (λ w. bit_at w (t % 64)) (get_or-set_other words k (t / 64) y 0 away)
+bit_of_set_out words k y t away = ap (λ w. bit_at w (t % 64)) (get_or-set_other words k (t / 64) y 0 away)
 
-bit_of-word : (words : List ℕ) (k t : ℕ) → t / 64 ≡ k → bit_of words t ≡ bit_at (get_or words k 0) (t % 64)
+bit_of_word : (words : List ℕ) (k t : ℕ) → t / 64 ≡ k → bit_of words t ≡ bit_at (get_or words k 0) (t % 64)
 unfolding bit_of
-bit_of-word words k t here = ap (λ j. bit_at (get_or words j 0) (t % 64)) here
+bit_of_word words k t here = ap (λ j. bit_at (get_or words j 0) (t % 64)) here
 
 module _ (old words : List ℕ) (v from at high y : ℕ) (late : from ≤ at) (within : at / 64 < length words) (masked : IsMasked (get_or words (at / 64) 0) y v (at % 64) high) (in_word : high ≤ 64) (some : at % 64 < high) where
   -- a bit before the run or behind it is as it was
@@ -50,10 +50,10 @@ module _ (old words : List ℕ) (v from at high y : ℕ) (late : from ≤ at) (w
   kept t apart =
       ⊎_elim
       (λ here.
-      bit_of-set_in words (at / 64) y t within here
+      bit_of_set_in words (at / 64) y t within here
       ∙ ⊎_elim (λ below. masked.below (t % 64) (omega arith)) (λ above. masked.above (t % 64) (omega arith) (omega arith)) apart
-      ∙ sym (bit_of-word words (at / 64) t here))
-      (λ away. bit_of-set_out words (at / 64) y t away)
+      ∙ sym (bit_of_word words (at / 64) t here))
+      (λ away. bit_of_set_out words (at / 64) y t away)
       (cases_eq (t / 64) (at / 64))
 
   pub written_more : IsWritten old words v from at → IsWritten old (set words (at / 64) y) v from (64 * (at / 64) + high)
@@ -62,7 +62,7 @@ module _ (old words : List ℕ) (v from at high y : ℕ) (late : from ≤ at) (w
         ⊎_elim (λ already. kept t (inl already) ∙ before.inside t from_on already)
         (λ now.
         let here : t / 64 ≡ at / 64 = omega arith in
-        bit_of-set_in words (at / 64) y t within here ∙ masked.inside (t % 64) (omega arith) (omega arith))
+        bit_of_set_in words (at / 64) y t within here ∙ masked.inside (t % 64) (omega arith) (omega arith))
         (cases_lt t at);
     outside = λ t apart.
         ⊎_elim (λ below. let h : t < at = omega arith in kept t (inl h) ∙ before.outside t (inl below))
