@@ -37,11 +37,6 @@ const VALUES: [Disorder; 3] = [
     },
 ];
 
-#[test]
-fn bookings_that_differ(rt: HostRuntime) -> Result<(), Fail> {
-    check_disorder(&rt, rt.alloc(), &VALUES)
-}
-
 const LISTS: [Disorder; 5] = [
     Disorder {
         name: "none",
@@ -96,6 +91,7 @@ const LISTS: [Disorder; 5] = [
 ];
 
 #[test]
-fn lists_that_differ(rt: HostRuntime) -> Result<(), Fail> {
+fn bookings_that_are_not_those_of_the_plan(rt: HostRuntime) -> Result<(), Fail> {
+    check_disorder(&rt, rt.alloc(), &VALUES)?;
     check_disorder(&rt, rt.alloc(), &LISTS)
 }
