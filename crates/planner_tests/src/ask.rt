@@ -1,5 +1,5 @@
 //! Calls on a sheet, in a short form.
-use crate::desk::Desk;
+use crate::fixture::Fixture;
 use crate::setting::APART;
 use certificate::{Answer, Asked, Call, Sheet};
 use std::alloc::{AllocError, Global};
@@ -51,7 +51,7 @@ pub fn first_wrong(asked: &[Asked], told: Told) -> Option<usize> {
 /// A sheet that counts so many steps, at most 3, of which the last may be on trial. It drew on a plan of its own, of two
 /// machines and three tasks that feed nothing.
 pub fn sheet_of(heap: Global, count: usize, is_on_trial: bool) -> Result<Sheet, Fail> {
-    let (mut desk, mut table) = (Desk::new(heap, &APART)?, Roll::new(heap, 3)?);
+    let (mut fixture, mut table) = (Fixture::new(heap, &APART)?, Roll::new(heap, 3)?);
     let last = if is_on_trial {
         Ask::Try(2, 0)
     } else {
@@ -60,5 +60,5 @@ pub fn sheet_of(heap: Global, count: usize, is_on_trial: bool) -> Result<Sheet, 
     let calls = [Ask::Place(0, 0), Ask::Place(1, 0), last];
     let mut asked = calls.map(|ask| ask.unanswered());
     let first = asked.len().checked_sub(count).ok_or("too many steps")?;
-    Ok(desk.draw(&mut table, &mut asked[first..])?)
+    Ok(fixture.draw(&mut table, &mut asked[first..])?)
 }

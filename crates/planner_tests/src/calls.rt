@@ -2,7 +2,7 @@
 use crate::ask::Ask::{Fill, Keep, Place, Strike, TakeBack, Try};
 use crate::ask::unanswered;
 use crate::case::{Drawn, check_drawn};
-use crate::desk::Desk;
+use crate::fixture::Fixture;
 use crate::setting::WORKED;
 use crate::state::{BLANK, State};
 use certificate::Answer::{Finish, Kept, Length, NotAllowed, Refused, Task};
@@ -154,11 +154,11 @@ fn lists_with_trials(rt: HostRuntime) -> Result<(), Fail> {
 fn a_timetable_with_bookings(rt: HostRuntime) -> Result<(), Fail> {
     let heap = rt.alloc();
     let mut table = Roll::new(heap, 8)?;
-    let mut desk = Desk::with(heap, &WORKED, &ONE_STEP, &mut table)?;
+    let mut fixture = Fixture::with(heap, &WORKED, &ONE_STEP, &mut table)?;
     let mut asked = unanswered(heap, &[(Fill, NotAllowed)])?;
-    let drawn = desk.draw(&mut table, &mut asked);
+    let drawn = fixture.draw(&mut table, &mut asked);
     assert_eq!(rt; drawn.map(|sheet| sheet.keep()).err(), Some(NotInOrder));
-    let is_left = ONE_STEP.is_held(&desk.plan, &table);
+    let is_left = ONE_STEP.is_held(&fixture.plan, &table);
     assert!(rt; is_left && asked.iter().all(|asked| asked.answer.is_none()));
     Ok(())
 }

@@ -1,6 +1,6 @@
 //! Cases: calls on a sheet, with the answers and the state that are expected of them.
 use crate::ask::{Ask, Told, first_wrong, sheet_of, unanswered};
-use crate::desk::Desk;
+use crate::fixture::Fixture;
 use crate::setting::Setting;
 use crate::state::State;
 use certificate::Answer;
@@ -28,13 +28,13 @@ impl Drawn<'_> {
         table: &mut T,
         cut: usize,
     ) -> Result<(), Fail> {
-        let mut desk = Desk::new(heap, self.setting)?;
+        let mut fixture = Fixture::new(heap, self.setting)?;
         let mut asked = unanswered(heap, self.told)?;
         let cut = cut.min(asked.len());
         let (first, others) = asked.split_at_mut(cut);
-        let sheet = desk.draw(table, first)?;
-        let sheet = desk.draw_on(sheet, table, others);
-        let is_left = desk.is_left(&self.left, table, sheet);
+        let sheet = fixture.draw(table, first)?;
+        let sheet = fixture.draw_on(sheet, table, others);
+        let is_left = fixture.is_left(&self.left, table, sheet);
         assert_eq!(rt;
             first_wrong(&asked, self.told),
             None,
@@ -89,11 +89,11 @@ impl Continued<'_> {
         heap: Global,
         table: &mut T,
     ) -> Result<(), Fail> {
-        let mut desk = Desk::with(heap, self.setting, &self.state, table)?;
+        let mut fixture = Fixture::with(heap, self.setting, &self.state, table)?;
         let mut asked = unanswered(heap, self.told)?;
         let sheet = sheet_of(heap, self.state.steps.len(), false)?;
-        let sheet = desk.draw_on(sheet, table, &mut asked);
-        let is_left = desk.is_left(&self.left, table, sheet);
+        let sheet = fixture.draw_on(sheet, table, &mut asked);
+        let is_left = fixture.is_left(&self.left, table, sheet);
         assert_eq!(rt; first_wrong(&asked, self.told), None, "{}", self.name);
         assert!(rt; is_left, "{}", self.name);
         Ok(())
@@ -118,7 +118,7 @@ impl Refusals<'_> {
         heap: Global,
         table: &mut T,
     ) -> Result<(), Fail> {
-        let mut desk = Desk::with(heap, self.setting, &self.state, table)?;
+        let mut fixture = Fixture::with(heap, self.setting, &self.state, table)?;
         let count = self.state.steps.len();
         for (ask, refusal) in self.refused {
             let told = [
@@ -127,8 +127,8 @@ impl Refusals<'_> {
             ];
             let mut asked = unanswered(heap, &told)?;
             let sheet = sheet_of(heap, count, false)?;
-            let sheet = desk.draw_on(sheet, table, &mut asked);
-            let is_left = desk.is_left(&self.state, table, sheet);
+            let sheet = fixture.draw_on(sheet, table, &mut asked);
+            let is_left = fixture.is_left(&self.state, table, sheet);
             assert_eq!(rt;
                 first_wrong(&asked, &told),
                 None,

@@ -1,7 +1,7 @@
 //! States that are not in order: every call is refused by 20, whatever it asks for, and changes nothing.
 use crate::ask::Ask::{Fill, Keep, Place, Strike, TakeBack, Try};
 use crate::ask::{Told, first_wrong, sheet_of, unanswered};
-use crate::desk::Desk;
+use crate::fixture::Fixture;
 use crate::setting::Setting;
 use crate::state::State;
 use certificate::Answer::{NotAllowed, Refused};
@@ -48,7 +48,7 @@ impl Disorder<'_> {
         table: &mut T,
         is_on_trial: bool,
     ) -> Result<(), Fail> {
-        let mut desk = Desk::with(heap, self.setting, &self.state, table)?;
+        let mut fixture = Fixture::with(heap, self.setting, &self.state, table)?;
         let told = if is_on_trial {
             REFUSED_ON_TRIAL
         } else {
@@ -56,9 +56,9 @@ impl Disorder<'_> {
         };
         let mut asked = unanswered(heap, told)?;
         let sheet = sheet_of(heap, self.count, is_on_trial)?;
-        let sheet = desk.draw_on(sheet, table, &mut asked).hand_in();
-        let belongs = sheet.belongs_to(&desk.job, &desk.plan);
-        let is_left = self.state.is_held(&desk.plan, table) && sheet.step_count() == self.count;
+        let sheet = fixture.draw_on(sheet, table, &mut asked).hand_in();
+        let belongs = sheet.belongs_to(&fixture.job, &fixture.plan);
+        let is_left = self.state.is_held(&fixture.plan, table) && sheet.step_count() == self.count;
         assert_eq!(rt; first_wrong(&asked, told), None, "{}", self.name);
         assert!(rt; is_left && belongs == self.belongs, "{}", self.name);
         Ok(())

@@ -8,11 +8,11 @@ mod calls;
 #[cfg(test)]
 mod case;
 #[cfg(test)]
-mod desk;
-#[cfg(test)]
 mod disorder;
 #[cfg(test)]
 mod filling;
+#[cfg(test)]
+mod fixture;
 #[cfg(test)]
 mod hops;
 #[cfg(test)]

@@ -10,18 +10,18 @@ use std::alloc::Global;
 use std::test::Fail;
 use timetable::Writable;
 
-/// Routes, a job and a plan. Its calls have no clauses, so that the proof of a test need not carry what they say.
+/// Routes, a job and a plan. The calls have no clauses: a test compares what is left, and its proof needs nothing of it.
 #[derive(Drop)]
-pub struct Desk {
+pub struct Fixture {
     pub routes: SearchedRoutes<HopCount>,
     pub job: Job,
     pub plan: Plan,
 }
 
-impl Desk {
+impl Fixture {
     /// A setting with a blank plan.
-    pub fn new(heap: Global, setting: &Setting) -> Result<Desk, Fail> {
-        Ok(Desk {
+    pub fn new(heap: Global, setting: &Setting) -> Result<Fixture, Fail> {
+        Ok(Fixture {
             routes: setting.routes(heap)?,
             job: setting.job(heap)?,
             plan: Plan::new(),
@@ -34,10 +34,10 @@ impl Desk {
         setting: &Setting,
         state: &State,
         table: &mut T,
-    ) -> Result<Desk, Fail> {
-        let mut desk = Desk::new(heap, setting)?;
-        state.write(&mut desk.plan, table)?;
-        Ok(desk)
+    ) -> Result<Fixture, Fail> {
+        let mut fixture = Fixture::new(heap, setting)?;
+        state.write(&mut fixture.plan, table)?;
+        Ok(fixture)
     }
 
     /// Makes the calls on a new sheet.
