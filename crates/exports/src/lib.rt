@@ -1,7 +1,7 @@
 //! The program as a library for C and Rust: a script is followed into a buffer.
 #![tactic(auto)]
 
-ghost use Rattle.std.specs.Prelude.{◌≡◌, ◌≤◌, length, take, drop};
+ghost use Rattle.std.specs.Prelude.{◌≡◌, ◌≢◌, ◌<◌, ◌≤◌, length, take, drop};
 ghost use Rattle.session.specs.Sessions.{printed};
 
 use session::follow_script;
@@ -11,6 +11,9 @@ use std::alloc::Global;
 fn copied(found: &[u8], out: &mut [u8]) -> usize
     ensures copied { result ≤ length out.old → take result out.new ≡ found.now }
     ensures rest { drop result out.new ≡ drop result out.old }
+    ensures as_long { length found.now ≤ length out.old → result ≡ length found.now }
+    ensures no_room { length out.old < length found.now → result ≡ usize.MAX }
+    ensures unchanged { length out.old < length found.now → out.new ≡ out.old }
 {
     if found.len() > out.len() {
         return usize::MAX;
@@ -25,6 +28,9 @@ fn copied(found: &[u8], out: &mut [u8]) -> usize
 pub extern "C" fn tuvshorad_follow(alloc: Global, text: &[u8], out: &mut [u8]) -> usize
     ensures found { result ≤ length out.old → take result out.new ≡ printed text.now }
     ensures rest { drop result out.new ≡ drop result out.old }
+    ensures as_long { length (printed text.now) ≤ length out.old → result ≢ usize.MAX → result ≡ length (printed text.now) }
+    ensures no_room { length out.old < length (printed text.now) → result ≡ usize.MAX }
+    ensures unchanged { length out.old < result → out.new ≡ out.old }
 {
     let mut found = Vec::new(alloc);
     match follow_script(alloc, text, &mut found) {
