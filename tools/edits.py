@@ -1,9 +1,10 @@
 #!/usr/bin/env python3
 """Says which must-fail edits can no longer be applied.
 
-Run at the top of the repository: `python3 tools/edits.py`. For each crates/*/must-fail/*.edit the pairs of
-old and new text are applied in order, in memory, and each pair whose old text does not stand exactly once
-in its file is named. The status is 1 where there is one. Nothing is checked of what the crate proves then.
+Run at the top of the repository: `python3 tools/edits.py`. For each crates/*/must-fail/*.edit, which the gate tries,
+and each crates/*/planted/*.edit, which `tools/planted.sh` tries, the pairs of old and new text are applied in
+order, in memory, and each pair whose old text does not stand exactly once in its file is named. The status is 1
+where there is one. Nothing is checked of what the crate proves then.
 """
 import sys
 from pathlib import Path
@@ -56,7 +57,7 @@ def faults(edit):
 
 
 def main():
-    edits = sorted(Path("crates").glob("*/must-fail/*.edit"))
+    edits = sorted(edit for folder in ("must-fail", "planted") for edit in Path("crates").glob(f"*/{folder}/*.edit"))
     found = [(edit, fault) for edit in edits for fault in faults(edit)]
     for edit, fault in found:
         print(f"{edit}: {fault}")
