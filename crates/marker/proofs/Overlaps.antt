@@ -1,5 +1,5 @@
 -- Where no span overlaps a transfer, none shares a tick with it: each transfer has at most one leg on a link, since no route has a link twice.
-use Rattle.std.proofs.Common.{◌≡◌, ℕ, zero, suc, ◌+◌, ◌-◌, ◌<◌, ◌≤◌, Bool, true, false, cond, eqb, ltb, ◌≢◌, List, [], ◌∷◌, length, get_or, drop, Some, None, Option, sym, refl, ap, ◌∙◌, subst, ⊎_elim, zero-add, arith}
+use Rattle.std.proofs.Common.{◌≡◌, ℕ, zero, suc, ◌+◌, ◌-◌, ◌<◌, ◌≤◌, Bool, true, false, cond, eqb, ltb, ◌≢◌, List, [], ◌∷◌, length, get_or, drop, Some, None, Option, replicate, sym, refl, ap, ◌∙◌, subst, ⊎_elim, zero-add, arith}
 use Rattle.std.proofs.lemmas.Bool.{true≢false, cond-true, cond-false, cases_lt, and_parts, and_from, ltb-true, eqb-true, lt-ltb, eq-eqb}
 use Rattle.std.specs.List.{slice_get, find}
 use Rattle.model.specs.Bookings.{link_resource, collide}
@@ -8,11 +8,13 @@ use Rattle.model.specs.Plans.{PlanData, task_row, starts}
 use Rattle.model.specs.declared.booking.Booking.{Booking}
 use Rattle.model.specs.declared.job.Edge.{Edge}
 use Rattle.model.specs.declared.plan.Placement.{Placement}
+use Rattle.std.proofs.lemmas.List.{get_or-replicate, length-replicate}
+use Rattle.std.proofs.lemmas.Option.{slice_get-get_or}
 use Rattle.model.proofs.Firsts.{some≢none}
 use Rattle.routes.specs.Laws.{RouteLaws}
 use Rattle.routes.specs.Legs.{Ways, way_between, way, legs_on, legs_along, legs_at, legs}
 use Rattle.routes.specs.declared.hop.Hop.{Hop}
-use Rattle.marker.specs.Spans.{span_of, span_in, overlaps, overlapped_in, overlapped, SpansTell}
+use Rattle.marker.specs.Spans.{span_of, span_in, overlaps, overlapped_in, overlapped, IsBlankColumn, SpansTell}
 use Rattle.marker.specs.Table.{RowTells}
 use Rattle.marker.specs.Verdicts.{any, links_test}
 use Rattle.marker.specs.declared.legs.LegTable.{LegTable}
@@ -21,6 +23,23 @@ use Rattle.marker.specs.declared.spans.SpanTable.{SpanTable}
 use Rattle.marker.proofs.Fits.{leg_of_edge}
 use Rattle.marker.proofs.Parts.{any_parts, any_from}
 use Rattle.marker.proofs.Rows.{row_is, any_is}
+
+-- no tick
+abbrev pub no_span : Span
+no_span = record { start = 0; length = 0 }
+
+-- a row of no legs has no span
+pub no_span_in : (row : List (Option Booking)) (l : ℕ) → ((k : ℕ) → get_or row k None ≡ None) → span_in row l ≡ no_span
+no_span_in row l none = ap (λ bs. span_of (find (λ b. eqb b.resource (link_resource l)) bs)) (row_is row [] none)
+
+blank_column : IsBlankColumn (replicate 224 no_span)
+blank_column j below = slice_get-get_or (replicate 224 no_span) j no_span (omega (arith, length-replicate 224 no_span)) ∙ ap Some (get_or-replicate 224 j no_span no_span below)
+
+-- columns of no span are blank
+pub blank_columns : (n l : ℕ) (column : List Span) → slice_get (replicate n (replicate 224 no_span)) l ≡ Some column → IsBlankColumn column
+blank_columns zero l column e = absurd (some≢none (sym e))
+blank_columns (suc n) zero column e = let same : replicate 224 no_span ≡ column = cc e in subst IsBlankColumn same blank_column
+blank_columns (suc n) (suc l) column e = blank_columns n l column e
 
 -- an element that alone passes is the one that is found
 module _ {A : Type 0} (p : A → Bool) where

@@ -1,5 +1,5 @@
 -- What a row of the table of legs tells of a transfer's legs.
-use Rattle.std.proofs.Common.{◌≡◌, ℕ, zero, suc, ◌+◌, ◌-◌, ◌<◌, ◌≤◌, Bool, true, false, cond, ◌||◌, ◌⊎◌, List, [], ◌∷◌, length, get_or, Some, None, Option, Bor, Iter, map, sym, refl, ap, ◌∙◌, subst, ⊎_elim, arith}
+use Rattle.std.proofs.Common.{◌≡◌, ℕ, zero, suc, ◌+◌, ◌-◌, ◌<◌, ◌≤◌, Bool, true, false, cond, ◌||◌, ◌⊎◌, List, [], ◌∷◌, length, get_or, Some, None, Option, Bor, Iter, map, replicate, sym, refl, ap, ◌∙◌, subst, ⊎_elim, arith}
 use denote.Param.Members.{Mut}
 use Rattle.std.specs.Array.{IsFromFnResult, IsFromFnResultFrom}
 use Rattle.std.specs.Bool.{MatchBool}
@@ -138,3 +138,21 @@ legs_inside j N ρ p i k far =
     none_else (slice_get (legs (job_of j) N ρ (plan_of p) i) k) (λ b e.
     let l = leg_of_edge (job_of j) N ρ (plan_of p) i k b e in
     ⊎_elim (λ h. omega (arith, l.0, (of_job j).few_edges)) (λ h. omega (arith, l.1, starts_few p.transfers i)) far)
+
+-- nor has one that is past the edges of the job
+pub legs_past : (j : Job) (N : NetData) (ρ : Ways) (p : Plan) (i k : ℕ) → length (job_of j).edges ≤ i → slice_get (legs (job_of j) N ρ (plan_of p) i) k ≡ None
+legs_past j N ρ p i k far =
+    none_else (slice_get (legs (job_of j) N ρ (plan_of p) i) k) (λ b e.
+    let l = leg_of_edge (job_of j) N ρ (plan_of p) i k b e in
+    omega (arith, l.0, far))
+
+none_at : {A : Type 0} (n k : ℕ) → ◌≡◌ {A = Option A} (get_or (replicate n None) k None) None
+none_at zero k = refl
+none_at (suc n) zero = refl
+none_at (suc n) (suc k) = none_at n k
+
+-- rows of nothing have nothing at any place
+pub blank_at : {A : Type 0} (m n i k : ℕ) → ◌≡◌ {A = Option A} (get_or (get_or (replicate m (replicate n None)) i []) k None) None
+blank_at zero n i k = refl
+blank_at (suc m) n zero k = none_at n k
+blank_at (suc m) n (suc i) k = blank_at m n i k

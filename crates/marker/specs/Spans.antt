@@ -17,6 +17,14 @@ span_of (Some b) = record { start = b.start; length = b.length }
 abbrev pub span_in : List (Option Booking) → ℕ → Span
 span_in row l = span_of (find (λ b. b.resource == link_resource l) (flat_map option_to_list row))
 
+-- the column has no span
+abbrev pub IsBlankColumn : List Span → Type 0
+IsBlankColumn column = (j : ℕ) → j < 224 → slice_get column j ≡ Some (span_of None)
+
+-- nor has a column of the table
+abbrev pub AreBlank : SpanTable → Type 0
+AreBlank S = (l : ℕ) (column : List Span) → slice_get S.columns l ≡ Some column → IsBlankColumn column
+
 -- the column has the span of each edge on link l, by the legs in the table
 abbrev pub ColumnTells : List Span → LegTable → ℕ → Type 0
 ColumnTells column T l = (j : ℕ) → j < 224 → slice_get column j ≡ Some (span_in (slice_index_or T.rows j []) l)

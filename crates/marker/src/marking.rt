@@ -11,17 +11,17 @@ use routes::{RoutedPlan, Routes};
 
 /// A plan, what it is a plan of, the bookings of its tasks, the legs of its transfers, and their spans.
 #[derive(Drop)]
-pub(crate) struct Marking<'a, R: Routes> {
+pub(crate) struct Marking<'a, 't, R: Routes> {
     pub(crate) marked: RoutedPlan<'a, R>,
     tasks: TaskTable,
-    table: LegTable,
-    pub(crate) spans: SpanTable,
+    table: &'t LegTable,
+    pub(crate) spans: &'t SpanTable,
     ghost tasks_told: { TasksTell tasks marked },
-    ghost told: { Tells table marked },
-    ghost spans_told: { SpansTell spans table },
+    ghost told: { Tells table.now marked },
+    ghost spans_told: { SpansTell spans.now table.now },
 }
 
-impl<'a, R: Routes> Marking<'a, R> {
+impl<'a, 't, R: Routes> Marking<'a, 't, R> {
     ghost use Rattle.std.specs.Prelude.{◌≡◌, Bool};
     ghost use Rattle.std.specs.Option.{option_map};
     ghost use Rattle.std.specs.List.{slice_get};
@@ -32,13 +32,17 @@ impl<'a, R: Routes> Marking<'a, R> {
     ghost use Rattle.marker.specs.Verdicts.{any};
     ghost use Rattle.model.specs.declared.booking.Booking as Declared;
 
-    /// The marking of a plan.
-    pub(crate) fn new(marked: RoutedPlan<'a, R>) -> Marking<'a, R>
+    /// The marking of a plan. It borrows the two large tables, since a table that it holds is moved with it.
+    pub(crate) fn new(
+        marked: RoutedPlan<'a, R>,
+        table: &'t LegTable,
+        spans: &'t SpanTable,
+    ) -> Marking<'a, 't, R>
+        requires told { Tells table.now marked }
+        requires spans_told { SpansTell spans.now table.now }
         ensures { result.marked ≡ marked.entry }
     {
         let tasks = TaskTable::new(&marked);
-        let table = LegTable::new(&marked);
-        let spans = SpanTable::new(&table);
         Marking {
             marked,
             tasks,

@@ -14,7 +14,7 @@ mod order;
 mod placement;
 mod rows;
 
-impl<R: Routes> Marking<'_, R> {
+impl<R: Routes> Marking<'_, '_, R> {
     /// Whether the rule is broken by these two numbers.
     pub(crate) fn is_broken(&self, rule: Rule, x: usize, y: usize) -> bool
         ensures { result ≡ on self.now test rule x y }
@@ -36,7 +36,11 @@ impl<R: Routes> Marking<'_, R> {
     pub(crate) fn surely_holds(&self, rule: Rule, x: usize) -> bool
         ensures { IsTrue result → (y : ℕ) → on self.now test rule x y ≡ false }
     {
-        matches!(rule, Rule::Links) && self.overlaps_none_later(x)
+        match rule {
+            Rule::Machines => self.booking(x).is_none(),
+            Rule::Links => self.overlaps_none_later(x),
+            _ => false,
+        }
     }
 
     /// How many first numbers are to be looked at.

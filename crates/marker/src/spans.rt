@@ -1,12 +1,12 @@
 //! When each transfer is on each link, link by link.
 ghost use Rattle.std.specs.Prelude.{◌≡◌, ◌+◌, ◌<◌, Some};
-ghost use Rattle.marker.specs.Spans.{span_of, span_in, overlaps, overlapped, ColumnTells, SpansTell};
+ghost use Rattle.marker.specs.Table.{EndsAtCount};
+ghost use Rattle.marker.specs.Spans.{span_of, span_in, overlaps, overlapped, IsBlankColumn, AreBlank, ColumnTells, SpansTell};
 
 use crate::legs::LegTable;
 use model::network::{MOST_LINKS, MOST_STATIONS};
 use model::plan::TRANSFER_ROWS;
 use model::{Booking, Tick};
-use std::array;
 
 /// `length` ticks from `start`.
 #[derive(Clone, Copy)]
@@ -58,12 +58,16 @@ fn span_on_link(row: &[Option<Booking>], l: usize) -> Span
         .map_or(Span::NONE, Span::of)
 }
 
-/// The span of each edge on link `l`.
-fn column(legs: &LegTable, l: usize) -> [Span; TRANSFER_ROWS]
-    requires { l < 32 }
-    ensures { ColumnTells result legs.now l }
+/// Puts the span of each edge on link `l` into a column of no span.
+fn fill_column(column: &mut [Span; TRANSFER_ROWS], legs: &LegTable, l: usize)
+    requires link { l < 32 }
+    requires ends { EndsAtCount legs.now }
+    requires blank { IsBlankColumn column.old }
+    ensures { ColumnTells column.new legs.now l }
 {
-    array::from_fn(|j| span_on_link(legs.row(j), l))
+    for j in 0..legs.count() {
+        column[j] = span_on_link(legs.row(j), l);
+    }
 }
 
 /// The span of edge `j` on link `l` stands at place `j` of column `l`.
@@ -74,17 +78,23 @@ pub(crate) struct SpanTable {
 }
 
 impl SpanTable {
-    /// All spans of the legs in a table.
-    pub(crate) fn new(legs: &LegTable) -> SpanTable
-        ensures { SpansTell result legs.now }
+    /// A table of no span.
+    pub(crate) fn blank() -> SpanTable
+        ensures { AreBlank result }
     {
         SpanTable {
-            columns: array::from_fn(
-                |l|
-                    requires { l < 32 }
-                    ensures { ColumnTells result legs.entry.now l }
-                { column(legs, l) },
-            ),
+            columns: [[Span::NONE; TRANSFER_ROWS]; MOST_LINKS],
+        }
+    }
+
+    /// Puts all spans of the legs in a table into a table of no span, where that stands.
+    pub(crate) fn fill(&mut self, legs: &LegTable)
+        requires ends { EndsAtCount legs.now }
+        requires blank { AreBlank self.old }
+        ensures { SpansTell self.new legs.now }
+    {
+        for l in 0..MOST_LINKS {
+            fill_column(&mut self.columns[l], legs, l);
         }
     }
 

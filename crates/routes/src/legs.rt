@@ -1,12 +1,30 @@
 //! The legs of a transfer: its bookings in a plan, one for each hop of its route.
-ghost use Rattle.std.specs.Prelude.{◌≡◌};
+ghost use Rattle.std.specs.Prelude.{◌≡◌, length};
+ghost use Rattle.std.specs.Option.{option_map};
 ghost use Rattle.model.specs.Data.{net_of};
+ghost use Rattle.model.specs.Plans.{plan_of};
 ghost use Rattle.routes.specs.Laws.{RouteLaws};
+ghost use Rattle.routes.specs.Legs.{way};
 
 use crate::interface::Routes;
 use model::network::MOST_STATIONS;
 use model::plan::measures::transfer_length;
 use model::{Booking, Edge, Job, Plan};
+
+/// How many hops an edge is booked on: none unless its tasks are placed on different stations,
+/// and `None` where there is no route between those.
+pub fn way_length<R: Routes>(routes: &R, plan: &Plan, edge: Edge) -> Option<usize>
+    ensures { result ≡ option_map length (way (R.Routes.route routes.now) (plan_of plan.now) edge) }
+{
+    let (Some(from), Some(to)) = (plan.task(edge.from), plan.task(edge.to)) else {
+        return Some(0);
+    };
+    if from.station == to.station {
+        Some(0)
+    } else {
+        routes.route_length(from.station, to.station)
+    }
+}
 
 /// A plan of a job, with the routes by which its transfers go.
 /// `keeps` is what `R` promises of the routes; by it the definitions on this struct find the members of `R`.
@@ -68,8 +86,7 @@ impl<R: Routes> RoutedPlan<'_, R> {
     pub fn way_length(&self, edge: Edge) -> Option<usize>
         ensures { result ≡ option_map length (way_of self.now edge) }
     {
-        self.ends(edge)
-            .map_or(Some(0), |(from, to)| self.routes.route_length(from, to))
+        way_length(self.routes, self.plan, edge)
     }
 
     /// How many legs edge `i` has.
@@ -80,7 +97,9 @@ impl<R: Routes> RoutedPlan<'_, R> {
         let Some(edge) = self.job.edge(i) else {
             return 0;
         };
-        let hops = self.way_length(edge).unwrap_or(0);
+        let Some(hops) = self.way_length(edge) else {
+            return 0;
+        };
         hops.min(self.plan.start_count(i))
     }
 }

@@ -10,7 +10,6 @@ pub mod Unlined
 pub mod Answering
 pub mod Named
 pub mod Drained
-pub mod Filled
 pub mod Stated
 pub mod Spacing
 mod EarlierForms

@@ -1,6 +1,6 @@
 -- What a line says, by its first word and its numbers.
 use Rattle.std.proofs.Common.{◌≡◌, Bool, List, ℕ, Some, None, Ok, Err, Option, Result, IsErrAnd, refl, sym, subst}
-use Rattle.std.specs.Option.{option_map, ok_or}
+use Rattle.std.specs.Option.{option_and_then, ok_or}
 use Rattle.std.specs.Str.{bytes_eq}
 use Rattle.script.specs.Data.{LineData}
 use Rattle.script.specs.Statement.{form_line, numbered_of}
@@ -23,12 +23,6 @@ pub not_named : (e : LineError) (f : Option Form) (ns : Option (List ℕ)) → E
 not_named e None ns is = let same : e ≡ NotUnderstood = cc in rw same refl
 not_named e (Some f) ns is = cc
 
-pub not_numbers : {N : Type 0} (e : LineError) (f : Option Form) (o : Option N) (left : N → List ℕ) → Err e ≡ ok_or o NotUnderstood → TellsLine (Err e) (numbered_of f (option_map left o))
-not_numbers e None None left is = let same : e ≡ NotUnderstood = cc in rw same refl
-not_numbers e (Some f) None left is = let same : e ≡ NotUnderstood = cc in rw same refl
-not_numbers e f (Some n) left is = cc
-
-pub told_by_form : {N : Type 0} (r : Result Line LineError) (form : Form) (f : Option Form) (n : N) (o : Option N) (left : N → List ℕ) → Ok form ≡ ok_or f NotUnderstood → Ok n ≡ ok_or o NotUnderstood → TellsLine r (form_line form (left n)) → TellsLine r (numbered_of f (option_map left o))
-told_by_form r form None n o left is there told = cc
-told_by_form r form (Some f) n None left is there told = cc
-told_by_form r form (Some f) n (Some m) left is there told = let form' : f ≡ form = cc in let same : m ≡ n = cc in rw (form', same) told
+pub told_by_form : (r : Result Line LineError) (form : Form) (f : Option Form) (ns : Option (List ℕ)) → Ok form ≡ ok_or f NotUnderstood → TellsLine r (option_and_then (form_line form) ns) → TellsLine r (numbered_of f ns)
+told_by_form r form None ns is told = cc
+told_by_form r form (Some f) ns is told = let form' : f ≡ form = cc in rw form' told

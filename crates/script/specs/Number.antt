@@ -1,6 +1,6 @@
 -- The number that a word spells, and the numbers of a text.
 use Rattle.std.specs.Prelude.{ℕ, ◌+◌, ◌-◌, ◌*◌, ◌^◌, Bool, if◌then◌else◌, not, ◌&&◌, List, [], ◌∷◌, length, Some, None, Ok, Err, Option, Result, ◌==◌, nat_lt}
-use Rattle.std.specs.Option.{option_map}
+use Rattle.std.specs.Option.{option_map, ok_or}
 use Rattle.std.specs.Str.{all_ascii_digits}
 use Rattle.script.specs.declared.error.LineError.{LineError}
 use Rattle.script.specs.declared.error.LineError.TheVariants.{NotUnderstood}
@@ -30,6 +30,11 @@ put_before (Some n) ns = option_map (λ rest. n ∷ rest) ns
 abbrev pub numbers_of : List (List ℕ) → Option (List ℕ)
 numbers_of [] = Some []
 numbers_of (w ∷ ws) = put_before (number_of w) (numbers_of ws)
+
+-- the number that the first word spells
+abbrev pub first_number : List (List ℕ) → Result ℕ LineError
+first_number [] = Err NotUnderstood
+first_number (w ∷ ws) = ok_or (number_of w) NotUnderstood
 
 -- the numbers, if these are n
 abbrev pub exactly_of : ℕ → Option (List ℕ) → Result (List ℕ) LineError

@@ -1,15 +1,13 @@
 //! Reads decimal numbers.
-ghost use Rattle.std.specs.Prelude.{◌≡◌, ℕ, IsSome, MatchOption, Ok, ◌<◌, length};
+ghost use Rattle.std.specs.Prelude.{◌≡◌, ℕ, IsSome, MatchOption, ◌<◌, length, drop};
 ghost use Rattle.std.specs.Iterator.{YieldsFirst, item_count};
-ghost use Rattle.std.specs.List.{list_all};
-ghost use Rattle.std.specs.Option.{option_map, is_some};
-ghost use Rattle.script.specs.Number.{number_of, numbers_of};
+ghost use Rattle.std.specs.Option.{option_map};
+ghost use Rattle.script.specs.Number.{number_of, numbers_of, first_number, exactly_of};
 ghost use Rattle.script.specs.Spelling.{Spells};
 ghost use Rattle.script.specs.Words.{words_left};
 
 use crate::error::LineError;
 use crate::words::Words;
-use std::array;
 
 /// The number that `word` spells: decimal digits alone, of a value up to 4294967295.
 /// Zeros may stand in front, in any number: `007` is 7.
@@ -30,46 +28,66 @@ pub fn read_number(word: &[u8]) -> Option<u32>
     Some(value)
 }
 
-/// Whether each of `words` spells a number.
-fn are_numbers(mut words: Words) -> bool
-    ensures { result ≡ list_all (λ word. is_some (number_of word)) (words_left words.entry) }
+/// The number that the next of `words` spells.
+pub fn next_number(words: &mut Words) -> Result<u32, LineError>
+    ensures number { result ≡ first_number (words_left words.old) }
+    ensures rest { words_left words.new ≡ drop 1 (words_left words.old) }
 {
-    words.all(|word| read_number(word).is_some())
+    words
+        .next()
+        .and_then(read_number)
+        .ok_or(LineError::NotUnderstood)
 }
 
-/// The numbers of a text that are still to come: each of its words spells one.
+/// How many `words` are, if each spells a number.
+#[tactic(auto, using(crate::proofs::Parting::few_words))]
+fn count_numbers(words: Words) -> Option<usize>
+    ensures { result ≡ option_map (λ ns. length ns) (numbers_of (words_left words.entry)) }
+{
+    let mut count = 0;
+    for word in words {
+        read_number(word)?;
+        count += 1;
+    }
+    Some(count)
+}
+
+/// The numbers that `words` spell, if they are `N` and each spells one. Each word is read once.
+pub fn exactly<const N: usize>(mut words: Words) -> Result<[u32; N], LineError>
+    ensures { result ≡ exactly_of N (numbers_of (words_left words.entry)) }
+{
+    let mut numbers = [0; N];
+    for number in &mut numbers {
+        *number = words
+            .next()
+            .and_then(read_number)
+            .ok_or(LineError::NotUnderstood)?;
+    }
+    match words.next() {
+        None => Ok(numbers),
+        Some(_) => Err(LineError::NotUnderstood),
+    }
+}
+
+/// The numbers of a text that are still to come, and how many they are: each of its words spells one.
 #[derive(Clone, Copy)]
 pub struct Numbers<'a> {
     words: Words<'a>,
+    count: usize,
     ghost each: { IsSome (numbers_of (words_left words)) },
+    ghost counted: { count ≡ length (words_left words) },
 }
 
 impl<'a> Numbers<'a> {
     ghost use Rattle.script.specs.Left.{numbers_left};
-    ghost use Rattle.script.specs.Number.{exactly_of};
 
     /// The numbers of `words`, if each word spells one.
-    #[tactic(auto, using(crate::proofs::Numbers::numbers_if_all))]
+    #[tactic(auto, using(crate::proofs::Numbers::counted))]
     pub fn new(words: Words<'a>) -> Option<Numbers<'a>>
         ensures { option_map numbers_left result ≡ numbers_of (words_left words.entry) }
     {
-        // An `if`, since a closure for `then` would not know that each word spells a number.
-        if are_numbers(words) {
-            Some(Numbers { words })
-        } else {
-            None
-        }
-    }
-
-    /// The numbers, if these are `N`.
-    pub fn exactly<const N: usize>(mut self) -> Result<[u32; N], LineError>
-        ensures { result ≡ exactly_of N (Some (numbers_left self.entry)) }
-    {
-        if self.len() != N {
-            return Err(LineError::NotUnderstood);
-        }
-        // `N` numbers are left, so the 0 is never taken. Not an `unwrap`: what is left at a call is out of the closure's reach.
-        Ok(array::from_fn(|_| self.next().unwrap_or(0)))
+        let count = count_numbers(words)?;
+        Some(Numbers { words, count })
     }
 }
 
@@ -83,13 +101,15 @@ impl Iterator for Numbers<'_> {
     ghost remaining = { item_count numbers_left };
 
     fn next(&mut self) -> Option<u32> {
-        self.words.next().and_then(read_number)
+        let word = self.words.next()?;
+        self.count -= 1;
+        read_number(word)
     }
 }
 
 impl ExactSizeIterator for Numbers<'_> {
     #[tactic(auto, using(crate::proofs::Numbers::numbers_length))]
     fn len(&self) -> usize {
-        self.words.len()
+        self.count
     }
 }

@@ -1,8 +1,8 @@
 //! What the words of a line say.
 ghost use Rattle.std.specs.Prelude.{◌≡◌};
-ghost use Rattle.std.specs.Option.{ok_or};
+ghost use Rattle.std.specs.Option.{ok_or, option_and_then};
 ghost use Rattle.script.specs.Data.{line_data};
-ghost use Rattle.script.specs.Left.{numbers_left};
+ghost use Rattle.script.specs.Number.{numbers_of};
 ghost use Rattle.script.specs.Statement.{task_of, edge_of, machine_of, alone_of, link_of, route_of, bookings_of, row_of, starts_of, place_of, try_of, form_line, kind_named, routes_of, hand_of, bits_of, timetable_of, line_of};
 ghost use Rattle.script.specs.Tell.{TellsLine};
 ghost use Rattle.script.specs.Words.{words_left};
@@ -13,7 +13,7 @@ use crate::form::Form;
 use crate::hop::Hops;
 use crate::line::{Line, RouteKind, TimetableKind};
 use crate::list::list_of;
-use crate::number::Numbers;
+use crate::number::{Numbers, exactly, next_number};
 use crate::words::Words;
 use std::alloc::Global;
 
@@ -33,72 +33,74 @@ const LAST_EDGE: u32 = 223;
 const MOST_STARTS: usize = 15;
 
 /// `task WORK`
-fn task(numbers: Numbers) -> Result<Line, LineError>
-    ensures { TellsLine result (task_of (numbers_left numbers.entry)) }
+fn task(words: Words) -> Result<Line, LineError>
+    ensures { TellsLine result (option_and_then task_of (numbers_of (words_left words.entry))) }
 {
-    let [work] = numbers.exactly::<1>()?;
+    let [work] = exactly::<1>(words)?;
     Ok(Line::Task { work })
 }
 
 /// `edge FROM TO VOLUME`
-fn edge(numbers: Numbers) -> Result<Line, LineError>
-    ensures { TellsLine result (edge_of (numbers_left numbers.entry)) }
+fn edge(words: Words) -> Result<Line, LineError>
+    ensures { TellsLine result (option_and_then edge_of (numbers_of (words_left words.entry))) }
 {
-    let [from, to, volume] = numbers.exactly::<3>()?;
+    let [from, to, volume] = exactly::<3>(words)?;
     Ok(Line::Edge { from, to, volume })
 }
 
 /// `machine SPEED`
-fn machine(numbers: Numbers) -> Result<Line, LineError>
-    ensures { TellsLine result (machine_of (numbers_left numbers.entry)) }
+fn machine(words: Words) -> Result<Line, LineError>
+    ensures { TellsLine result (option_and_then machine_of (numbers_of (words_left words.entry))) }
 {
-    let [speed] = numbers.exactly::<1>()?;
+    let [speed] = exactly::<1>(words)?;
     Ok(Line::Machine { speed })
 }
 
 /// A line of one word, which says `line`.
-fn alone(line: Line, numbers: Numbers) -> Result<Line, LineError>
-    ensures { TellsLine result (alone_of (line_data line) (numbers_left numbers.entry)) }
+fn alone(line: Line, words: Words) -> Result<Line, LineError>
+    ensures { TellsLine result (option_and_then (alone_of (line_data line)) (numbers_of (words_left words.entry))) }
 {
-    let [] = numbers.exactly::<0>()?;
+    let [] = exactly::<0>(words)?;
     Ok(line)
 }
 
 /// `link SPEED STATION STATION ..`
-fn link(heap: Global, mut numbers: Numbers) -> Result<Line, LineError>
-    ensures { TellsLine result (link_of (numbers_left numbers.entry)) }
+fn link(heap: Global, mut words: Words) -> Result<Line, LineError>
+    ensures { TellsLine result (option_and_then link_of (numbers_of (words_left words.entry))) }
 {
-    let speed = numbers.next().ok_or(LineError::NotUnderstood)?;
+    let speed = next_number(&mut words)?;
+    let numbers = Numbers::new(words).ok_or(LineError::NotUnderstood)?;
     let stations = list_of(heap, numbers)?;
     Ok(Line::Link { speed, stations })
 }
 
 /// `route FROM TO LINK STATION LINK STATION ..`
-fn route(heap: Global, mut numbers: Numbers) -> Result<Line, LineError>
-    ensures { TellsLine result (route_of (numbers_left numbers.entry)) }
+fn route(heap: Global, mut words: Words) -> Result<Line, LineError>
+    ensures { TellsLine result (option_and_then route_of (numbers_of (words_left words.entry))) }
 {
-    let from = numbers.next().ok_or(LineError::NotUnderstood)?;
-    let to = numbers.next().ok_or(LineError::NotUnderstood)?;
-    let hops = Hops::new(numbers).ok_or(LineError::NotUnderstood)?;
+    let from = next_number(&mut words)?;
+    let to = next_number(&mut words)?;
+    let pairs = Numbers::new(words).ok_or(LineError::NotUnderstood)?;
+    let hops = Hops::new(pairs).ok_or(LineError::NotUnderstood)?;
     let hops = list_of(heap, hops)?;
     Ok(Line::Route { from, to, hops })
 }
 
 /// `bookings MOST`
-fn bookings(numbers: Numbers) -> Result<Line, LineError>
-    ensures { TellsLine result (bookings_of (numbers_left numbers.entry)) }
+fn bookings(words: Words) -> Result<Line, LineError>
+    ensures { TellsLine result (option_and_then bookings_of (numbers_of (words_left words.entry))) }
 {
-    match numbers.exactly::<1>()? {
+    match exactly::<1>(words)? {
         [most @ ..=MOST_BOOKINGS] => Ok(Line::Bookings { most }),
         _ => Err(LineError::NotUnderstood),
     }
 }
 
 /// `row TASK STATION START`
-fn row(numbers: Numbers) -> Result<Line, LineError>
-    ensures { TellsLine result (row_of (numbers_left numbers.entry)) }
+fn row(words: Words) -> Result<Line, LineError>
+    ensures { TellsLine result (option_and_then row_of (numbers_of (words_left words.entry))) }
 {
-    match numbers.exactly::<3>()? {
+    match exactly::<3>(words)? {
         [task @ ..=LAST_TASK, station @ ..=LAST_STATION, start] => Ok(Line::Row {
             task,
             station,
@@ -109,12 +111,14 @@ fn row(numbers: Numbers) -> Result<Line, LineError>
 }
 
 /// `starts EDGE START START ..`
-fn starts(heap: Global, mut numbers: Numbers) -> Result<Line, LineError>
-    ensures { TellsLine result (starts_of (numbers_left numbers.entry)) }
+fn starts(heap: Global, mut words: Words) -> Result<Line, LineError>
+    ensures { TellsLine result (option_and_then starts_of (numbers_of (words_left words.entry))) }
 {
-    match (numbers.next(), numbers.len()) {
-        (Some(edge @ ..=LAST_EDGE), 1..=MOST_STARTS) => {
-            let starts = list_of(heap, numbers)?;
+    let edge = next_number(&mut words)?;
+    let ticks = Numbers::new(words).ok_or(LineError::NotUnderstood)?;
+    match (edge, ticks.len()) {
+        (..=LAST_EDGE, 1..=MOST_STARTS) => {
+            let starts = list_of(heap, ticks)?;
             Ok(Line::Starts { edge, starts })
         }
         _ => Err(LineError::NotUnderstood),
@@ -122,45 +126,45 @@ fn starts(heap: Global, mut numbers: Numbers) -> Result<Line, LineError>
 }
 
 /// `place TASK MACHINE`
-fn place(numbers: Numbers) -> Result<Line, LineError>
-    ensures { TellsLine result (place_of (numbers_left numbers.entry)) }
+fn place(words: Words) -> Result<Line, LineError>
+    ensures { TellsLine result (option_and_then place_of (numbers_of (words_left words.entry))) }
 {
-    let [task, machine] = numbers.exactly::<2>()?;
+    let [task, machine] = exactly::<2>(words)?;
     Ok(Line::Place { task, machine })
 }
 
 /// `try TASK MACHINE`
-fn trial(numbers: Numbers) -> Result<Line, LineError>
-    ensures { TellsLine result (try_of (numbers_left numbers.entry)) }
+fn trial(words: Words) -> Result<Line, LineError>
+    ensures { TellsLine result (option_and_then try_of (numbers_of (words_left words.entry))) }
 {
-    let [task, machine] = numbers.exactly::<2>()?;
+    let [task, machine] = exactly::<2>(words)?;
     Ok(Line::Try { task, machine })
 }
 
-/// What a line of a form says with these numbers.
-fn numbered(heap: Global, form: Form, numbers: Numbers) -> Result<Line, LineError>
-    ensures { TellsLine result (form_line form (numbers_left numbers.entry)) }
+/// What a line of a form says with these words, as numbers.
+fn numbered(heap: Global, form: Form, words: Words) -> Result<Line, LineError>
+    ensures { TellsLine result (option_and_then (form_line form) (numbers_of (words_left words.entry))) }
 {
     // By form and not by word: what the numbers of a line say is defined over the forms.
     match form {
-        Form::Task => task(numbers),
-        Form::Edge => edge(numbers),
-        Form::Machine => machine(numbers),
-        Form::Switch => alone(Line::Switch, numbers),
-        Form::Link => link(heap, numbers),
-        Form::Route => route(heap, numbers),
-        Form::Bookings => bookings(numbers),
-        Form::Answer => alone(Line::Answer, numbers),
-        Form::Row => row(numbers),
-        Form::Starts => starts(heap, numbers),
-        Form::Mark => alone(Line::Mark, numbers),
-        Form::Place => place(numbers),
-        Form::Try => trial(numbers),
-        Form::Keep => alone(Line::Keep, numbers),
-        Form::Strike => alone(Line::Strike, numbers),
-        Form::Back => alone(Line::Back, numbers),
-        Form::Fill => alone(Line::Fill, numbers),
-        Form::Show => alone(Line::Show, numbers),
+        Form::Task => task(words),
+        Form::Edge => edge(words),
+        Form::Machine => machine(words),
+        Form::Switch => alone(Line::Switch, words),
+        Form::Link => link(heap, words),
+        Form::Route => route(heap, words),
+        Form::Bookings => bookings(words),
+        Form::Answer => alone(Line::Answer, words),
+        Form::Row => row(words),
+        Form::Starts => starts(heap, words),
+        Form::Mark => alone(Line::Mark, words),
+        Form::Place => place(words),
+        Form::Try => trial(words),
+        Form::Keep => alone(Line::Keep, words),
+        Form::Strike => alone(Line::Strike, words),
+        Form::Back => alone(Line::Back, words),
+        Form::Fill => alone(Line::Fill, words),
+        Form::Show => alone(Line::Show, words),
     }
 }
 
@@ -205,11 +209,11 @@ fn hand(mut words: Words) -> Result<Line, LineError>
     }
 }
 
-/// `timetable bits W`: `numbers` are those after the words.
-fn bits(numbers: Numbers) -> Result<Line, LineError>
-    ensures { TellsLine result (bits_of (numbers_left numbers.entry)) }
+/// `timetable bits W`: `words` are those after the first two.
+fn bits(words: Words) -> Result<Line, LineError>
+    ensures { TellsLine result (option_and_then bits_of (numbers_of (words_left words.entry))) }
 {
-    match numbers.exactly::<1>()? {
+    match exactly::<1>(words)? {
         [words @ ..=MOST_WORDS] => Ok(Line::Timetable(TimetableKind::Bits(words))),
         _ => Err(LineError::NotUnderstood),
     }
@@ -220,9 +224,9 @@ fn bits(numbers: Numbers) -> Result<Line, LineError>
 fn timetable(mut words: Words) -> Result<Line, LineError>
     ensures { TellsLine result (timetable_of (words_left words.entry)) }
 {
-    match (words.next(), Numbers::new(words)) {
-        (Some(b"roll"), Some(numbers)) => alone(Line::Timetable(TimetableKind::Roll), numbers),
-        (Some(b"bits"), Some(numbers)) => bits(numbers),
+    match words.next() {
+        Some(b"roll") => alone(Line::Timetable(TimetableKind::Roll), words),
+        Some(b"bits") => bits(words),
         _ => Err(LineError::NotUnderstood),
     }
 }
@@ -241,6 +245,5 @@ pub fn statement_of(heap: Global, word: &[u8], words: Words) -> Result<Line, Lin
         return timetable(words);
     }
     let form = Form::try_from(word)?;
-    let numbers = Numbers::new(words).ok_or(LineError::NotUnderstood)?;
-    numbered(heap, form, numbers)
+    numbered(heap, form, words)
 }

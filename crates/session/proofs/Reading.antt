@@ -55,8 +55,8 @@ module _ (n : ℕ) (before : List Statement) (l : List ℕ) (ls ls' : List (List
       let t = takes (read l) h in
       (t.0, sym so_far ∙ first_stated n l ls ls' p ∙ ap (λ a. stated (n + 1) l a (statements (n + 1) ls')) t.1, t.2)
 
-  -- what a line answers, if it has a word
-  pub item_given : (r : Result (Option Line) LineError) (x : Result Line LineError) → Some x ≡ result_transpose r → Reads r (read l) → IsFirst (Some x) (n + 1) l before (statements (n + 1) ls')
-  item_given (Ok None) x none h = cc
-  item_given (Ok (Some line)) x same h = subst (λ y. IsFirst y (n + 1) l before (statements (n + 1) ls')) (sym same) (line_given line h)
-  item_given (Err e) x same h = subst (λ y. IsFirst y (n + 1) l before (statements (n + 1) ls')) (sym same) (error_given e h)
+  -- what a line answers, where it is no line without a word
+  pub said_given : (r : Result (Option Line) LineError) (o : Option (Result Line LineError)) → o ≡ result_transpose r → (r ≡ Ok None → ⊥) → Reads r (read l) → IsFirst o (n + 1) l before (statements (n + 1) ls')
+  said_given (Ok None) o same some h = absurd (some refl)
+  said_given (Ok (Some line)) o same some h = subst (λ y. IsFirst y (n + 1) l before (statements (n + 1) ls')) (sym same) (line_given line h)
+  said_given (Err e) o same some h = subst (λ y. IsFirst y (n + 1) l before (statements (n + 1) ls')) (sym same) (error_given e h)

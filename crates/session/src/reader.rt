@@ -76,8 +76,9 @@ impl Iterator for Reader<'_> {
         while let Some(bytes) = self.lines.next() {
             self.number += 1;
             self.bytes = bytes;
-            if let Some(said) = read_line(self.alloc, bytes).transpose() {
-                return Some(said);
+            let said = read_line(self.alloc, bytes);
+            if !matches!(said, Ok(None)) {
+                return said.transpose();
             }
         }
         None

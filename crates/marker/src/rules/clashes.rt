@@ -9,7 +9,7 @@ use crate::marking::Marking;
 use model::Booking;
 use routes::Routes;
 
-impl<R: Routes> Marking<'_, R> {
+impl<R: Routes> Marking<'_, '_, R> {
     /// Whether two tasks share a tick of a machine.
     pub(crate) fn machines_test(&self, t: usize, u: usize) -> bool
         ensures { result ≡ on self.now machines_test t u }

@@ -10,7 +10,7 @@ use routes::Routes;
 /// No task and no transfer finishes later.
 const LIMIT: u64 = LATEST_END as u64;
 
-impl<R: Routes> Marking<'_, R> {
+impl<R: Routes> Marking<'_, '_, R> {
     /// Whether a task is done after the limit.
     fn task_late(&self, t: usize) -> bool
         ensures { result ≡ on self.now limit_test 0 t }

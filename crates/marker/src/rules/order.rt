@@ -10,7 +10,7 @@ use crate::marking::Marking;
 use model::{Placement, Tick};
 use routes::Routes;
 
-impl<R: Routes> Marking<'_, R> {
+impl<R: Routes> Marking<'_, '_, R> {
     /// Whether the transfer starts before its origin is done.
     pub(crate) fn departure_test(&self, i: usize) -> bool
         ensures { result ≡ on self.now departure_test i }

@@ -6,7 +6,7 @@ ghost use Rattle.marker.specs.Verdicts.{predecessors_test, routed_test};
 use crate::marking::Marking;
 use routes::Routes;
 
-impl<R: Routes> Marking<'_, R> {
+impl<R: Routes> Marking<'_, '_, R> {
     /// Whether the edge's goal is placed and its origin is not.
     pub(crate) fn predecessors_test(&self, i: usize) -> bool
         ensures { result ≡ on self.now predecessors_test i }

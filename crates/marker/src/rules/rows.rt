@@ -6,7 +6,7 @@ ghost use Rattle.marker.specs.Verdicts.{rows_test};
 use crate::marking::Marking;
 use routes::Routes;
 
-impl<R: Routes> Marking<'_, R> {
+impl<R: Routes> Marking<'_, '_, R> {
     /// Whether a task's row is of no task of the job, or on no machine.
     fn row_stray(&self, t: usize) -> bool
         ensures { result ≡ on self.now rows_test 0 t }

@@ -14,7 +14,7 @@ returns-clause-answer g c =
     let m = c.new-marking.result in
     let first = find_map_from_yields_List (on m search_rule) _ c.find_map.result c.find_map.ensures.runs (YieldsList-from_slice order (cc)) (λ x b q k. search (rules, tests)) in
     let answer : c.unwrap_or.result ≡ on m verdict = c.unwrap_or.ensures ∙ found_is c.find_map.result ∙ ap found (first ∙ first_rules (job_of m.marked.job.now) (net_of (g.R.Routes.over m.marked.routes.now)) (g.R.Routes.route m.marked.routes.now) (plan_of m.marked.plan.now) order) in
-    rw (← c.new.ensures.routes, ← c.new.ensures.job, ← c.new.ensures.plan, ← c.new-marking.ensures) answer
+    rw (← c.new-marked.ensures.routes, ← c.new-marked.ensures.job, ← c.new-marked.ensures.plan, ← c.new-marking.ensures) answer
 
 pub returns-clause-first : goal.returns-clause-first
 returns-clause-first g c = names_the_first _ _ _ _

@@ -1,7 +1,6 @@
 use Rattle.std.proofs.Common.{true, false, codes}
 use Rattle.script.specs.Form.{form_named}
-use Rattle.script.specs.Left.{numbers_left}
-use Rattle.script.proofs.Stated.{tested, passed_on, not_named, not_numbers, told_by_form}
+use Rattle.script.proofs.Stated.{tested, passed_on, not_named, told_by_form}
 use Rattle.script.proofs.statement.statement_of.Goals as goal
 
 pub returns-then-eq : goal.returns-then-eq
@@ -29,16 +28,9 @@ returns-in_err-form c =
     let last' = tested c.args.word.now (codes "timetable") c.as_slice-3.result.now false (cc) c.as_slice-3.ensures in
     rw (no', nor', last') (passed_on c.from_residual.result c.in_err-form.field-0.0 _ c.from_residual.ensures.1 (not_named c.in_err-form.field-0.0 (form_named c.args.word.now) _ c.in_err-form.ensures))
 
-pub returns-in_err-numbers : goal.returns-in_err-numbers
-returns-in_err-numbers c =
-    let no' = tested c.args.word.now (codes "routes") c.as_slice.result.now false (cc) c.as_slice.ensures in
-    let nor' = tested c.args.word.now (codes "hand") c.as_slice-2.result.now false (cc) c.as_slice-2.ensures in
-    let last' = tested c.args.word.now (codes "timetable") c.as_slice-3.result.now false (cc) c.as_slice-3.ensures in
-    rw (no', nor', last', ← c.new.ensures) (passed_on c.from_residual-in_err-numbers.result c.in_err-numbers.field-0.0 _ c.from_residual-in_err-numbers.ensures.1 (not_numbers c.in_err-numbers.field-0.0 (form_named c.args.word.now) c.new.result numbers_left c.in_err-numbers.ensures.value))
-
 pub returns : goal.returns
 returns c =
     let no' = tested c.args.word.now (codes "routes") c.as_slice.result.now false (cc) c.as_slice.ensures in
     let nor' = tested c.args.word.now (codes "hand") c.as_slice-2.result.now false (cc) c.as_slice-2.ensures in
     let last' = tested c.args.word.now (codes "timetable") c.as_slice-3.result.now false (cc) c.as_slice-3.ensures in
-    rw (no', nor', last', ← c.new.ensures) (told_by_form c.numbered.result c.in_ok-form.form (form_named c.args.word.now) c.in_ok-numbers.numbers c.new.result numbers_left c.in_ok-form.ensures c.in_ok-numbers.ensures.value c.numbered.ensures)
+    rw (no', nor', last') (told_by_form c.numbered.result c.in_ok-form.form (form_named c.args.word.now) _ c.in_ok-form.ensures c.numbered.ensures)

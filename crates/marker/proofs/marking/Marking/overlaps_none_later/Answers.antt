@@ -16,6 +16,6 @@ returns g c shown =
     let i = c.args.i in
     let N = net_of (g.R.Routes.over m.marked.routes.now) in
     let ρ = g.R.Routes.route m.marked.routes.now in
-    let answer : c.any_leg.result ≡ any (on m legs i) (overlapped m.spans i) = c.any_leg.ensures (overlapped m.spans i) (λ x r a. search (rules, tests)) in
+    let answer : c.any_leg.result ≡ any (on m legs i) (overlapped m.spans.now i) = c.any_leg.ensures (overlapped m.spans.now i) (λ x r a. search (rules, tests)) in
     let no : c.any_leg.result ≡ false = not-true _ shown in
-    none_overlapped (job_of m.marked.job.now) N ρ (plan_of m.marked.plan.now) (g.met.R.Routes.keeps m.marked.routes.now) (of_job m.marked.job.now).few_edges m.table m.told m.spans m.spans_told i (sym answer ∙ no)
+    none_overlapped (job_of m.marked.job.now) N ρ (plan_of m.marked.plan.now) (g.met.R.Routes.keeps m.marked.routes.now) (of_job m.marked.job.now).few_edges m.table.now m.told m.spans.now m.spans_told i (sym answer ∙ no)
